@@ -1,0 +1,3 @@
+-- The laws of the measures, by subject.
+mod Range
+mod Answers

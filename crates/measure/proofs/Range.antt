@@ -1,0 +1,77 @@
+-- What the range gives: sizes of coordinates, so that squares and their sums fit. Assumes nothing.
+use mathlib.Core.Path.{_≡_, ap}
+use mathlib.Core.Bool.{Bool, true, false, cond, _&&_}
+use Prim.Native.Nat.{ℕ, _+_, _*_, _^_, _<_, _≤_}
+use native.Mathlib.Omega.{arith}
+use native.Mathlib.Nat.{mul-le-mul}
+use borrow.Author.Tests.{leb-true}
+use lib.IntN.{ℤ, pos, negsuc, natAbs, _+ℤ_, _-ℤ_, _*ℤ_}
+use lib.Signed.{ltZ, leZ}
+use mir.Syntax.{w32}
+use mir.Val.{SFits}
+use Rattle.numbers.proofs.Tests.{both, chosen}
+use Rattle.numbers.proofs.Sizes.{difference-size, square-size}
+use Rattle.measure.specs.declared.Axis.{Axis}
+use Rattle.measure.specs.Axis.{limit, inRange, pointIn, spanIn, squareOf, nearestOn, nearFace, farFace, minSq, nearSq, farSq, Ready}
+
+abbrev InRange : ℤ → Type 0
+InRange z = inRange z ≡ true
+
+pub in-range-size : (z : ℤ) → inRange z ≡ true → natAbs z ≤ limit
+unfolding inRange
+in-range-size (pos n) e = leb-true n limit e
+in-range-size (negsuc n) e = omega (arith, leb-true n 999999 (both _ true e .0))
+
+-- what an `Axis` by value holds fits its fields
+pub record Fields (a : Axis) : Type 0 where
+  pub at : SFits w32 (a .at)
+  pub low : SFits w32 (a .low)
+  pub high : SFits w32 (a .high)
+
+-- the most that one axis can give
+abbrev pub most : ℕ
+most = 4 * (limit * limit)
+
+module _ (a b : ℤ) (h : inRange a ≡ true) (k : inRange b ≡ true) where
+  pub difference-small : natAbs (a -ℤ b) ≤ 2 * limit
+  difference-small = omega (arith, difference-size a b, in-range-size a h, in-range-size b k)
+
+  pub square-small : squareOf a b ≤ most
+  unfolding squareOf
+  square-small =
+      omega (arith, difference-small, mul-le-mul difference-small difference-small, ap natAbs (square-size (a -ℤ b)))
+
+-- ---- one axis that nothing refuses
+
+module _ {a : Axis} (h : Ready a) where
+  pub at-in : inRange (a .at) ≡ true
+  unfolding pointIn
+  at-in = h .point
+
+  span-tests : (inRange (a .low) && inRange (a .high) ≡ true) × (leZ (a .low) (a .high) ≡ true)
+  unfolding spanIn
+  span-tests = both _ _ (h .span)
+
+  pub low-in : inRange (a .low) ≡ true
+  low-in = both _ _ (span-tests .0) .0
+
+  pub high-in : inRange (a .high) ≡ true
+  high-in = both (inRange (a .low)) _ (span-tests .0) .1
+
+  pub ordered : leZ (a .low) (a .high) ≡ true
+  ordered = span-tests .1
+
+  pub nearest-in : inRange (nearestOn a) ≡ true
+  unfolding nearestOn
+  nearest-in = chosen InRange (ltZ (a .at) (a .low)) low-in (chosen InRange (ltZ (a .high) (a .at)) high-in at-in)
+
+  pub min-small : minSq a ≤ most
+  min-small = square-small _ _ at-in nearest-in
+
+  pub near-small : nearSq a ≤ most
+  unfolding nearFace
+  near-small = square-small _ _ at-in (chosen InRange (leZ (pos 2 *ℤ a .at) (a .low +ℤ a .high)) low-in high-in)
+
+  pub far-small : farSq a ≤ most
+  unfolding farFace
+  far-small = square-small _ _ at-in (chosen InRange (leZ (a .low +ℤ a .high) (pos 2 *ℤ a .at)) low-in high-in)

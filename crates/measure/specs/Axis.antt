@@ -1,0 +1,53 @@
+-- One axis of a point and a box: the point at p, the box from low to high, in millimetres.
+-- Document 01, 'Measures'; document 001, Definitions 2 and 4.
+use mathlib.Core.Path.{_≡_}
+use mathlib.Core.Bool.{Bool, true, cond, _&&_}
+use Prim.Native.Nat.{ℕ}
+use lib.IntN.{ℤ, pos, negℤ, natAbs, _+ℤ_, _-ℤ_, _*ℤ_}
+use lib.Signed.{ltZ, leZ}
+use Rattle.measure.specs.declared.Axis.{Axis}
+
+-- how far from 0 a coordinate may be
+abbrev pub limit : ℕ
+limit = 1000000
+
+unfoldable pub inRange : ℤ → Bool
+inRange z = leZ (negℤ (pos limit)) z && leZ z (pos limit)
+
+unfoldable pub pointIn : Axis → Bool
+pointIn a = inRange (a .at)
+
+-- both ends in range, and low ≤ high
+unfoldable pub spanIn : Axis → Bool
+spanIn a = inRange (a .low) && inRange (a .high) && leZ (a .low) (a .high)
+
+-- (a - b)²
+unfoldable pub squareOf : ℤ → ℤ → ℕ
+squareOf a b = natAbs ((a -ℤ b) *ℤ (a -ℤ b))
+
+-- r: low if p < low, high if p > high, else p
+unfoldable pub nearestOn : Axis → ℤ
+nearestOn a = cond (ltZ (a .at) (a .low)) (a .low) (cond (ltZ (a .high) (a .at)) (a .high) (a .at))
+
+-- the near face m: low if 2p ≤ low + high, else high
+unfoldable pub nearFace : Axis → ℤ
+nearFace a = cond (leZ (pos 2 *ℤ a .at) (a .low +ℤ a .high)) (a .low) (a .high)
+
+-- the far face M: low if 2p ≥ low + high, else high
+unfoldable pub farFace : Axis → ℤ
+farFace a = cond (leZ (a .low +ℤ a .high) (pos 2 *ℤ a .at)) (a .low) (a .high)
+
+-- (p - r)², (p - m)² and (p - M)²
+abbrev pub minSq : Axis → ℕ
+minSq a = squareOf (a .at) (nearestOn a)
+
+abbrev pub nearSq : Axis → ℕ
+nearSq a = squareOf (a .at) (nearFace a)
+
+abbrev pub farSq : Axis → ℕ
+farSq a = squareOf (a .at) (farFace a)
+
+-- an axis that nothing refuses
+pub record Ready (a : Axis) : Type 0 where
+  pub point : pointIn a ≡ true
+  pub span : spanIn a ≡ true

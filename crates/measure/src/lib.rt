@@ -1,0 +1,92 @@
+// The three measures of document 01: MINDIST and MINMAXDIST of a point and a box, and the plain distance.
+// A squared distance and a length are different types, and only `plain` turns one into the other.
+// Any crate that measures calls this one; it knows nothing of maps, bays or badges.
+mod all_axes;
+mod one_axis;
+mod root;
+
+pub use root::plain;
+ghost use mathlib.Core.Path.{_≡_};
+ghost use Rattle.measure.specs.Axes.{minDist, minMaxDist};
+ghost use Rattle.measure.specs.Answer.{onX, onY, axesOf, measureOf, measuredBy, replyOf};
+use all_axes::Kind;
+use all_axes::judged;
+
+// A squared distance, in square millimetres.
+pub struct SquaredMm(pub u64);
+
+// A length, in millimetres.
+pub struct Mm(pub u64);
+
+// A place on the floor, in millimetres.
+pub struct Point {
+    pub x: i32,
+    pub y: i32,
+}
+
+// From low to high on one axis, both ends included, in millimetres.
+pub struct Span {
+    pub low: i32,
+    pub high: i32,
+}
+
+// A box: a span on each axis.
+pub struct Bounds {
+    pub x: Span,
+    pub y: Span,
+}
+
+// One axis of a point and a box: where the point is, and the box's span.
+pub struct Axis {
+    pub at: i32,
+    pub low: i32,
+    pub high: i32,
+}
+
+// What a measure of a point and a box answers: `replyOf` gives document 01's number and value for each case.
+pub enum Measured {
+    Found(SquaredMm),
+    PointOutside,
+    BoxOutside,
+}
+
+// MINDIST, or the refusal.
+pub fn mindist(p: Point, b: Bounds) -> Measured
+    ensures { λ r. ⌜ replyOf r ≡ measuredBy minDist (axesOf p b) ⌝ }
+{
+    answered(Kind::Min, p, b)
+}
+
+// MINMAXDIST, or the refusal.
+pub fn minmaxdist(p: Point, b: Bounds) -> Measured
+    ensures { λ r. ⌜ replyOf r ≡ measuredBy minMaxDist (axesOf p b) ⌝ }
+{
+    answered(Kind::MinMax, p, b)
+}
+
+// Who makes the list of axes.
+fn answered(kind: Kind, p: Point, b: Bounds) -> Measured
+    ensures { λ r. ⌜ replyOf r ≡ measuredBy (measureOf kind) (axesOf p b) ⌝ }
+{
+    judged(kind, on_x(p, b), on_y(p, b))
+}
+
+fn on_x(p: Point, b: Bounds) -> Axis
+    ensures { λ r. ⌜ r ≡ onX p b ⌝ }
+{
+    Axis {
+        at: p.x,
+        low: b.x.low,
+        high: b.x.high,
+    }
+}
+
+fn on_y(p: Point, b: Bounds) -> Axis
+    ensures { λ r. ⌜ r ≡ onY p b ⌝ }
+{
+    Axis {
+        at: p.y,
+        low: b.y.low,
+        high: b.y.high,
+    }
+}

@@ -1,0 +1,6 @@
+-- The ground laws, by subject.
+pub mod Tests
+pub mod Sizes
+pub mod Signed
+pub mod Squares
+pub mod Shifted
