@@ -5,14 +5,15 @@ use Prim.Native.Nat.{ℕ, _+_, _*_, _^_, _<_, _≤_}
 use native.Mathlib.Omega.{arith}
 use native.Mathlib.Nat.{mul-le-mul}
 use borrow.Author.Tests.{leb-true}
-use lib.IntN.{ℤ, pos, negsuc, natAbs, _+ℤ_, _-ℤ_, _*ℤ_}
-use lib.Signed.{ltZ, leZ}
+use lib.IntN.{ℤ, pos, negsuc, natAbs, _-ℤ_}
+use lib.Signed.{ltZ, leZ, _≤ℤ_}
 use mir.Syntax.{w32}
 use mir.Val.{SFits}
 use Rattle.numbers.proofs.Tests.{both, chosen}
+use Rattle.numbers.proofs.Order.{test-le}
 use Rattle.numbers.proofs.Sizes.{difference-size, square-size}
 use Rattle.measure.specs.declared.Axis.{Axis}
-use Rattle.measure.specs.Axis.{limit, inRange, pointIn, spanIn, squareOf, nearestOn, nearFace, farFace, minSq, nearSq, farSq, Ready}
+use Rattle.measure.specs.Axis.{limit, inRange, pointIn, spanIn, squareOf, nearestOn, lowIsNear, lowIsFar, minSq, nearSq, farSq, Ready}
 
 abbrev InRange : ℤ → Type 0
 InRange z = inRange z ≡ true
@@ -58,8 +59,8 @@ module _ {a : Axis} (h : Ready a) where
   pub high-in : inRange (a .high) ≡ true
   high-in = both (inRange (a .low)) _ (span-tests .0) .1
 
-  pub ordered : leZ (a .low) (a .high) ≡ true
-  ordered = span-tests .1
+  pub ordered : a .low ≤ℤ a .high
+  ordered = test-le (span-tests .1)
 
   pub nearest-in : inRange (nearestOn a) ≡ true
   unfolding nearestOn
@@ -69,9 +70,7 @@ module _ {a : Axis} (h : Ready a) where
   min-small = square-small _ _ at-in nearest-in
 
   pub near-small : nearSq a ≤ most
-  unfolding nearFace
-  near-small = square-small _ _ at-in (chosen InRange (leZ (pos 2 *ℤ a .at) (a .low +ℤ a .high)) low-in high-in)
+  near-small = square-small _ _ at-in (chosen InRange (lowIsNear a) low-in high-in)
 
   pub far-small : farSq a ≤ most
-  unfolding farFace
-  far-small = square-small _ _ at-in (chosen InRange (leZ (a .low +ℤ a .high) (pos 2 *ℤ a .at)) low-in high-in)
+  far-small = square-small _ _ at-in (chosen InRange (lowIsFar a) low-in high-in)

@@ -29,13 +29,19 @@ squareOf a b = natAbs ((a -ℤ b) *ℤ (a -ℤ b))
 unfoldable pub nearestOn : Axis → ℤ
 nearestOn a = cond (ltZ (a .at) (a .low)) (a .low) (cond (ltZ (a .high) (a .at)) (a .high) (a .at))
 
--- the near face m: low if 2p ≤ low + high, else high
-unfoldable pub nearFace : Axis → ℤ
-nearFace a = cond (leZ (pos 2 *ℤ a .at) (a .low +ℤ a .high)) (a .low) (a .high)
+-- the near face m is low if 2p ≤ low + high, else high
+unfoldable pub lowIsNear : Axis → Bool
+lowIsNear a = leZ (pos 2 *ℤ a .at) (a .low +ℤ a .high)
 
--- the far face M: low if 2p ≥ low + high, else high
-unfoldable pub farFace : Axis → ℤ
-farFace a = cond (leZ (a .low +ℤ a .high) (pos 2 *ℤ a .at)) (a .low) (a .high)
+abbrev pub nearFace : Axis → ℤ
+nearFace a = cond (lowIsNear a) (a .low) (a .high)
+
+-- the far face M is low if 2p ≥ low + high, else high
+unfoldable pub lowIsFar : Axis → Bool
+lowIsFar a = leZ (a .low +ℤ a .high) (pos 2 *ℤ a .at)
+
+abbrev pub farFace : Axis → ℤ
+farFace a = cond (lowIsFar a) (a .low) (a .high)
 
 -- (p - r)², (p - m)² and (p - M)²
 abbrev pub minSq : Axis → ℕ

@@ -3,3 +3,4 @@ pub mod Axis
 pub mod Axes
 pub mod Answer
 pub mod Root
+pub mod Within

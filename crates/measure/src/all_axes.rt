@@ -51,10 +51,12 @@ fn min_max_over(x: Axis, y: Axis) -> SquaredMm
 pub fn judged(kind: Kind, x: Axis, y: Axis) -> Measured
     ensures { λ r. ⌜ replyOf r ≡ measuredBy (measureOf kind) (x ∷ y ∷ []) ⌝ }
 {
-    if !(x.point_in() & y.point_in()) {
+    let point = x.point_in() & y.point_in();
+    let span = x.span_in() & y.span_in();
+    if !point {
         return Measured::PointOutside;
     }
-    if !(x.span_in() & y.span_in()) {
+    if !span {
         return Measured::BoxOutside;
     }
     match kind {

@@ -50,6 +50,30 @@ pub enum Measured {
     BoxOutside,
 }
 
+impl Measured {
+    // Document 01's answer number.
+    pub fn number(self) -> u32
+        ensures { λ r. ⌜ r ≡ replyOf self .number ⌝ }
+    {
+        match self {
+            Measured::Found(_) => 0,
+            Measured::PointOutside => 1,
+            Measured::BoxOutside => 2,
+        }
+    }
+
+    // Document 01's value: 0 where the measure is refused.
+    pub fn value(self) -> SquaredMm
+        ensures { λ r. ⌜ r .0 ≡ replyOf self .value ⌝ }
+    {
+        match self {
+            Measured::Found(d) => d,
+            Measured::PointOutside => SquaredMm(0),
+            Measured::BoxOutside => SquaredMm(0),
+        }
+    }
+}
+
 // MINDIST, or the refusal.
 pub fn mindist(p: Point, b: Bounds) -> Measured
     ensures { λ r. ⌜ replyOf r ≡ measuredBy minDist (axesOf p b) ⌝ }

@@ -1,6 +1,7 @@
 -- The ground laws, by subject.
 pub mod Tests
 pub mod Sizes
+pub mod Order
 pub mod Signed
 pub mod Squares
 pub mod Shifted

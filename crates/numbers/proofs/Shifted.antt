@@ -4,9 +4,10 @@ use mathlib.Core.Path.{_≡_}
 use mathlib.Core.Bool.{true, false, true≢false, false≢true}
 use Prim.Native.Nat.{ℕ, zero, suc, _+_, _-_, _<_, _≤_}
 use native.Mathlib.Omega.{arith}
-use borrow.Author.Tests.{ltb-true, ltb-false, leb-true, leb-false}
+use lib.Dec.{leb→le}
+use borrow.Author.Tests.{ltb-true, ltb-false}
 use lib.IntN.{ℤ, pos, negsuc, natAbs, _-ℤ_}
-use lib.Signed.{mag, ltZ, leZ}
+use lib.Signed.{mag, ltZ, _≤ℤ_}
 use Rattle.numbers.proofs.Sizes.{apart-size}
 
 unfoldable pub up : ℕ → ℤ → ℕ
@@ -28,12 +29,12 @@ module _ (K : ℕ) where
   up-nlt (negsuc a) (pos b) h k e = absurd (true≢false e)
   up-nlt (negsuc a) (negsuc b) h k e = omega (arith, ltb-false b a e)
 
-  pub up-le : (a b : ℤ) → mag a < K → mag b < K → leZ a b ≡ true → up K a ≤ up K b
+  pub up-le : (a b : ℤ) → mag a < K → mag b < K → a ≤ℤ b → up K a ≤ up K b
   unfolding up
-  up-le (pos a) (pos b) h k e = omega (arith, leb-true a b e)
-  up-le (pos a) (negsuc b) h k e = absurd (false≢true e)
+  up-le (pos a) (pos b) h k e = omega (arith, leb→le a b (e .le))
+  up-le (pos a) (negsuc b) h k e = absurd (e .le)
   up-le (negsuc a) (pos b) h k e = omega arith
-  up-le (negsuc a) (negsuc b) h k e = omega (arith, leb-true b a e)
+  up-le (negsuc a) (negsuc b) h k e = omega (arith, leb→le b a (e .le))
 
   pub up-apart : (a b : ℤ) → mag a < K → mag b < K → natAbs (a -ℤ b) ≡ (up K a - up K b) + (up K b - up K a)
   unfolding up

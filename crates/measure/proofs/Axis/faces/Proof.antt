@@ -3,12 +3,11 @@
 use mathlib.Core.Path.{_≡_, _∙_, ap}
 use mathlib.Core.Bool.{Bool, true, false, cond}
 use borrow.Author.Needs.{needs}
-use lib.IntN.{ℤ, pos, _+ℤ_, _*ℤ_}
-use lib.Signed.{leZ}
+use lib.IntN.{ℤ}
 use mir.Facts.{toZ-ofZ}
 use Rattle.numbers.proofs.Signed.{signed, twice-is, sum-is}
 use Rattle.measure.specs.declared.SquaredMm.{SquaredMm}
-use Rattle.measure.specs.Axis.{squareOf, nearFace, farFace}
+use Rattle.measure.specs.Axis.{squareOf, lowIsNear, lowIsFar}
 use Rattle.measure.proofs.Range.{Fields, at-in, low-in, high-in}
 use Rattle.measure.proofs.Axis.faces.Statement.{statement}
 use Rattle.measure.proofs.Axis.faces.Tie as tie
@@ -53,7 +52,7 @@ chosen-square true p low high e f g = ap (λ (d : SquaredMm). d .0) e ∙ f
 chosen-square false p low high e f g = ap (λ (d : SquaredMm). d .0) e ∙ g
 
 returns : tie.Need-returns
-unfolding nearFace farFace
+unfolding lowIsNear lowIsFar
 returns c =
     let squares = c .before .before .before .before .before .before .before .before in
     let s = squares .before .before .before .before in
@@ -63,9 +62,7 @@ returns c =
     let to-high = rw (toZ-ofZ (f .high)) at (squares .square-to2 .ensures) in
     let near = rw (twice-is (f .at), sum-is (f .low) (f .high)) at (c .before .either .ensures) in
     let far = rw (sum-is (f .low) (f .high), twice-is (f .at)) at (c .either2 .ensures) in
-    let twice = pos 2 *ℤ a .at in
-    let ends = a .low +ℤ a .high in
-    (chosen-square (leZ twice ends) _ _ _ near to-low to-high, chosen-square (leZ ends twice) _ _ _ far to-low to-high)
+    (chosen-square (lowIsNear a) _ _ _ near to-low to-high, chosen-square (lowIsFar a) _ _ _ far to-low to-high)
 
 pub faces-spec : {M : Type 1} → statement M
 faces-spec =

@@ -1,0 +1,2 @@
+-- Document 01's starred figures.
+pub mod Figures

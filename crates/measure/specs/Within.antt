@@ -1,0 +1,17 @@
+-- A box that lies within a box, axis by axis, seen from one point.
+use mathlib.Core.Path.{_≡_}
+use mathlib.Core.List.{List, [], _∷_}
+use lib.Signed.{_≤ℤ_}
+use Rattle.measure.specs.declared.Axis.{Axis}
+
+-- the span of a, which has low ≤ high, lies within that of b
+pub record Within (a b : Axis) : Type 0 where
+  pub point : a .at ≡ b .at
+  pub low : b .low ≤ℤ a .low
+  pub span : a .low ≤ℤ a .high
+  pub high : a .high ≤ℤ b .high
+
+-- the same on every axis
+pub data AllWithin : List Axis → List Axis → Type 0 where
+  none : AllWithin [] []
+  more : {a b : Axis} {inner outer : List Axis} → Within a b → AllWithin inner outer → AllWithin (a ∷ inner) (b ∷ outer)
