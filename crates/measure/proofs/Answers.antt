@@ -5,7 +5,7 @@ use mathlib.Core.List.{List, [], _∷_}
 use Prim.Native.Nat.{ℕ}
 use Rattle.numbers.proofs.Tests.{both, and-true}
 use Rattle.measure.specs.declared.Axis.{Axis}
-use Rattle.measure.specs.Axis.{pointIn, spanIn, Ready}
+use Rattle.measure.specs.Axis.{pointIn, boxIn, Ready}
 use Rattle.measure.specs.Axes.{every, Each}
 use Rattle.measure.specs.Answer.{reply, measuredBy}
 
@@ -14,20 +14,20 @@ module _ (f : List Axis → ℕ) (axes : List Axis) where
   unfolding measuredBy
   measured-1 h = simp h
 
-  pub measured-2 : every pointIn axes ≡ true → every spanIn axes ≡ false → measuredBy f axes ≡ reply 2 0
+  pub measured-2 : every pointIn axes ≡ true → every boxIn axes ≡ false → measuredBy f axes ≡ reply 2 0
   unfolding measuredBy
   measured-2 h k = simp (h, k)
 
-  pub measured-0 : every pointIn axes ≡ true → every spanIn axes ≡ true → measuredBy f axes ≡ reply 0 (f axes)
+  pub measured-0 : every pointIn axes ≡ true → every boxIn axes ≡ true → measuredBy f axes ≡ reply 0 (f axes)
   unfolding measuredBy
   measured-0 h k = simp (h, k)
 
 -- axes that pass both tests are ready
-pub every-ready : (axes : List Axis) → every pointIn axes ≡ true → every spanIn axes ≡ true → Each Ready axes
+pub every-ready : (axes : List Axis) → every pointIn axes ≡ true → every boxIn axes ≡ true → Each Ready axes
 every-ready [] h k = tt
 every-ready (a ∷ axes) h k =
     let p = both (pointIn a) (every pointIn axes) h in
-    let s = both (spanIn a) (every spanIn axes) k in
+    let s = both (boxIn a) (every boxIn axes) k in
     (record { point = p .0; span = s .0 }, every-ready axes (p .1) (s .1))
 
 -- the flags of two axes, joined as the code joins them

@@ -13,6 +13,7 @@ use Rattle.numbers.proofs.Tests.{both, chosen}
 use Rattle.numbers.proofs.Order.{test-le}
 use Rattle.numbers.proofs.Sizes.{difference-size, square-size}
 use Rattle.measure.specs.declared.Axis.{Axis}
+use Rattle.measure.specs.declared.Span.{Span}
 use Rattle.measure.specs.Axis.{limit, inRange, pointIn, spanIn, squareOf, nearestOn, lowIsNear, lowIsFar, minSq, nearSq, farSq, Ready}
 
 abbrev InRange : ℤ → Type 0
@@ -23,11 +24,15 @@ unfolding inRange
 in-range-size (pos n) e = leb-true n limit e
 in-range-size (negsuc n) e = omega (arith, leb-true n 999999 (both _ true e .0))
 
--- what an `Axis` by value holds fits its fields
+-- what a `Span` or an `Axis` by value holds fits its fields
+pub record Ends (s : Span) : Type 0 where
+  pub low : SFits w32 (s .low)
+  pub high : SFits w32 (s .high)
+
 pub record Fields (a : Axis) : Type 0 where
   pub at : SFits w32 (a .at)
-  pub low : SFits w32 (a .low)
-  pub high : SFits w32 (a .high)
+  pub low : SFits w32 (a .span .low)
+  pub high : SFits w32 (a .span .high)
 
 -- the most that one axis can give
 abbrev pub most : ℕ
@@ -49,22 +54,22 @@ module _ {a : Axis} (h : Ready a) where
   unfolding pointIn
   at-in = h .point
 
-  span-tests : (inRange (a .low) && inRange (a .high) ≡ true) × (leZ (a .low) (a .high) ≡ true)
+  span-tests : (inRange (a .span .low) && inRange (a .span .high) ≡ true) × (leZ (a .span .low) (a .span .high) ≡ true)
   unfolding spanIn
   span-tests = both _ _ (h .span)
 
-  pub low-in : inRange (a .low) ≡ true
+  pub low-in : inRange (a .span .low) ≡ true
   low-in = both _ _ (span-tests .0) .0
 
-  pub high-in : inRange (a .high) ≡ true
-  high-in = both (inRange (a .low)) _ (span-tests .0) .1
+  pub high-in : inRange (a .span .high) ≡ true
+  high-in = both (inRange (a .span .low)) _ (span-tests .0) .1
 
-  pub ordered : a .low ≤ℤ a .high
+  pub ordered : a .span .low ≤ℤ a .span .high
   ordered = test-le (span-tests .1)
 
   pub nearest-in : inRange (nearestOn a) ≡ true
   unfolding nearestOn
-  nearest-in = chosen InRange (ltZ (a .at) (a .low)) low-in (chosen InRange (ltZ (a .high) (a .at)) high-in at-in)
+  nearest-in = chosen InRange (ltZ (a .at) (a .span .low)) low-in (chosen InRange (ltZ (a .span .high) (a .at)) high-in at-in)
 
   pub min-small : minSq a ≤ most
   min-small = square-small _ _ at-in nearest-in

@@ -16,7 +16,7 @@ use Rattle.measure.specs.declared.Axis.{Axis}
 use Rattle.measure.specs.declared.Mm.{Mm}
 use Rattle.measure.specs.declared.Measured.{Measured}
 use Rattle.measure.specs.declared.Measured.the-variants.{Found, PointOutside, BoxOutside}
-use Rattle.measure.specs.Axis.{pointIn, spanIn, squareOf, nearestOn, lowIsNear, lowIsFar, minSq, nearSq, farSq, Ready}
+use Rattle.measure.specs.Axis.{pointIn, boxIn, squareOf, nearestOn, lowIsNear, lowIsFar, minSq, nearSq, farSq, Ready}
 use Rattle.measure.specs.Axes.{every, Each, sumOver, faceSums, least, minDist, minMaxDist}
 use Rattle.measure.specs.Answer.{Reply, replyOf, measuredBy}
 use Rattle.measure.specs.Root.{RootOf}
@@ -42,9 +42,9 @@ mindist-more (more {a} {b} w ws) = omega (arith, min-more a b w, mindist-more ws
 
 -- an end of the span is a place of it
 module _ (a : Axis) (h : Ready a) where
-  face-more : (t : Bool) → minSq a ≤ squareOf (a .at) (cond t (a .low) (a .high))
-  face-more true = nearest-least a (a .low) (≤ℤ-refl (a .low)) (ordered h)
-  face-more false = nearest-least a (a .high) (ordered h) (≤ℤ-refl (a .high))
+  face-more : (t : Bool) → minSq a ≤ squareOf (a .at) (cond t (a .span .low) (a .span .high))
+  face-more true = nearest-least a (a .span .low) (≤ℤ-refl (a .span .low)) (ordered h)
+  face-more false = nearest-least a (a .span .high) (ordered h) (≤ℤ-refl (a .span .high))
 
   near-more : minSq a ≤ nearSq a
   near-more = face-more (lowIsNear a)
@@ -81,9 +81,9 @@ minmaxdist-more (a ∷ axes) h = below-least _ _ (map (λ (n : ℕ). farSq a + n
 
 -- as they are answered, refused or not
 pub answered-more : (axes : List Axis) → measuredBy minDist axes .value ≤ measuredBy minMaxDist axes .value
-answered-more axes = by (every pointIn axes) (every spanIn axes) refl refl
+answered-more axes = by (every pointIn axes) (every boxIn axes) refl refl
   where
-    by : (s t : Bool) → every pointIn axes ≡ s → every spanIn axes ≡ t → measuredBy minDist axes .value ≤ measuredBy minMaxDist axes .value
+    by : (s t : Bool) → every pointIn axes ≡ s → every boxIn axes ≡ t → measuredBy minDist axes .value ≤ measuredBy minMaxDist axes .value
     by false t e f = rw (measured-1 minDist axes e, measured-1 minMaxDist axes e) (le-refl 0)
     by true false e f = rw (measured-2 minDist axes e f, measured-2 minMaxDist axes e f) (le-refl 0)
     by true true e f =

@@ -9,15 +9,15 @@ use Rattle.measure.specs.declared.Measured.{Measured}
 use Rattle.measure.specs.declared.Measured.the-variants.{Found, PointOutside, BoxOutside}
 use Rattle.measure.specs.declared.all_axes.Kind.{Kind}
 use Rattle.measure.specs.declared.all_axes.Kind.the-variants.{Min, MinMax}
-use Rattle.measure.specs.Axis.{pointIn, spanIn}
+use Rattle.measure.specs.Axis.{pointIn, boxIn}
 use Rattle.measure.specs.Axes.{every, minDist, minMaxDist}
 
 -- the axes of a point and a box
 abbrev pub onX : Point → Bounds → Axis
-onX p b = record { at = p .x; low = b .x .low; high = b .x .high }
+onX p b = record { at = p .x; span = b .x }
 
 abbrev pub onY : Point → Bounds → Axis
-onY p b = record { at = p .y; low = b .y .low; high = b .y .high }
+onY p b = record { at = p .y; span = b .y }
 
 abbrev pub axesOf : Point → Bounds → List Axis
 axesOf p b = onX p b ∷ onY p b ∷ []
@@ -38,7 +38,7 @@ replyOf BoxOutside = reply 2 0
 
 -- 1: the point is out of range on some axis; after that 2: the box is out of range, or low > high; else the measure
 unfoldable pub measuredBy : (List Axis → ℕ) → List Axis → Reply
-measuredBy f axes = cond (every pointIn axes) (cond (every spanIn axes) (reply 0 (f axes)) (reply 2 0)) (reply 1 0)
+measuredBy f axes = cond (every pointIn axes) (cond (every boxIn axes) (reply 0 (f axes)) (reply 2 0)) (reply 1 0)
 
 abbrev pub measureOf : Kind → List Axis → ℕ
 measureOf Min axes = minDist axes

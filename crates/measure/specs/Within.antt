@@ -7,9 +7,9 @@ use Rattle.measure.specs.declared.Axis.{Axis}
 -- the span of a, which has low ≤ high, lies within that of b
 pub record Within (a b : Axis) : Type 0 where
   pub point : a .at ≡ b .at
-  pub low : b .low ≤ℤ a .low
-  pub span : a .low ≤ℤ a .high
-  pub high : a .high ≤ℤ b .high
+  pub low : b .span .low ≤ℤ a .span .low
+  pub span : a .span .low ≤ℤ a .span .high
+  pub high : a .span .high ≤ℤ b .span .high
 
 -- the same on every axis
 pub data AllWithin : List Axis → List Axis → Type 0 where

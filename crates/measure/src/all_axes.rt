@@ -52,11 +52,11 @@ pub fn judged(kind: Kind, x: Axis, y: Axis) -> Measured
     ensures { λ r. ⌜ replyOf r ≡ measuredBy (measureOf kind) (x ∷ y ∷ []) ⌝ }
 {
     let point = x.point_in() & y.point_in();
-    let span = x.span_in() & y.span_in();
+    let bounds = x.box_in() & y.box_in();
     if !point {
         return Measured::PointOutside;
     }
-    if !span {
+    if !bounds {
         return Measured::BoxOutside;
     }
     match kind {

@@ -39,8 +39,7 @@ pub struct Bounds {
 // One axis of a point and a box: where the point is, and the box's span.
 pub struct Axis {
     pub at: i32,
-    pub low: i32,
-    pub high: i32,
+    pub span: Span,
 }
 
 // What a measure of a point and a box answers: `replyOf` gives document 01's number and value for each case.
@@ -98,19 +97,13 @@ fn answered(kind: Kind, p: Point, b: Bounds) -> Measured
 fn on_x(p: Point, b: Bounds) -> Axis
     ensures { λ r. ⌜ r ≡ onX p b ⌝ }
 {
-    Axis {
-        at: p.x,
-        low: b.x.low,
-        high: b.x.high,
-    }
+    let span = b.x;
+    Axis { at: p.x, span }
 }
 
 fn on_y(p: Point, b: Bounds) -> Axis
     ensures { λ r. ⌜ r ≡ onY p b ⌝ }
 {
-    Axis {
-        at: p.y,
-        low: b.y.low,
-        high: b.y.high,
-    }
+    let span = b.y;
+    Axis { at: p.y, span }
 }

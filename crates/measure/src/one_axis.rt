@@ -1,8 +1,10 @@
 // One axis at a time: its range, the place of the span nearest to the point, and the squares to it and to both faces.
+// The functions with a `requires` are for `all_axes`, which has made the tests; a caller outside goes by `mindist`.
 ghost use mathlib.Core.Path.{_≡_};
 ghost use mathlib.Core.Bool.{cond, true};
-ghost use Rattle.measure.specs.Axis.{squareOf, inRange, pointIn, spanIn, nearestOn, minSq, nearSq, farSq, Ready};
+ghost use Rattle.measure.specs.Axis.{squareOf, inRange, pointIn, spanIn, boxIn, nearestOn, minSq, nearSq, farSq, Ready};
 use crate::Axis;
+use crate::Span;
 use crate::SquaredMm;
 
 // The squares from the point to the near face and to the far one.
@@ -24,6 +26,15 @@ fn either(first: bool, a: SquaredMm, b: SquaredMm) -> SquaredMm
     if first { a } else { b }
 }
 
+impl Span {
+    // Both ends in range, and low ≤ high.
+    pub fn in_order(self) -> bool
+        ensures { λ r. ⌜ r ≡ spanIn self ⌝ }
+    {
+        in_range(self.low) & in_range(self.high) & (self.low <= self.high)
+    }
+}
+
 impl Axis {
     pub fn point_in(self) -> bool
         ensures { λ r. ⌜ r ≡ pointIn self ⌝ }
@@ -31,10 +42,11 @@ impl Axis {
         in_range(self.at)
     }
 
-    pub fn span_in(self) -> bool
-        ensures { λ r. ⌜ r ≡ spanIn self ⌝ }
+    pub fn box_in(self) -> bool
+        ensures { λ r. ⌜ r ≡ boxIn self ⌝ }
     {
-        in_range(self.low) & in_range(self.high) & (self.low <= self.high)
+        let span = self.span;
+        span.in_order()
     }
 
     // The place of the span that is nearest to the point.
@@ -42,8 +54,8 @@ impl Axis {
         ensures { λ r. ⌜ r ≡ nearestOn self ⌝ }
     {
         let at = self.at;
-        let low = self.low;
-        let high = self.high;
+        let low = self.span.low;
+        let high = self.span.high;
         if at < low {
             low
         } else if high < at {
@@ -74,10 +86,10 @@ impl Axis {
         requires { ⌜ Ready self ⌝ }
         ensures { λ r. ⌜ (r .near .0 ≡ nearSq self) × (r .far .0 ≡ farSq self) ⌝ }
     {
-        let to_low = self.square_to(self.low);
-        let to_high = self.square_to(self.high);
+        let to_low = self.square_to(self.span.low);
+        let to_high = self.square_to(self.span.high);
         let twice = 2 * (self.at as i64);
-        let ends = (self.low as i64) + (self.high as i64);
+        let ends = (self.span.low as i64) + (self.span.high as i64);
         let near = either(twice <= ends, to_low, to_high);
         let far = either(twice >= ends, to_low, to_high);
         Faces { near, far }

@@ -8,7 +8,7 @@ use borrow.Author.Needs.{needs}
 use borrow.Author.Tests.{not-true, not-false}
 use Rattle.measure.specs.declared.Axis.{Axis}
 use Rattle.measure.specs.declared.all_axes.Kind.{Kind}
-use Rattle.measure.specs.Axis.{pointIn, spanIn, Ready}
+use Rattle.measure.specs.Axis.{pointIn, boxIn, Ready}
 use Rattle.measure.specs.Axes.{every, Each}
 use Rattle.measure.specs.Answer.{reply, measuredBy, measureOf}
 use Rattle.measure.proofs.Answers.{measured-0, measured-1, measured-2, every-ready, every-two}
@@ -18,18 +18,18 @@ use Rattle.measure.proofs.all_axes.judged.Tie as tie
 axes : tie.Start → List Axis
 axes c = c .args .x ∷ c .args .y ∷ []
 
-start : tie.After-span-in2 → tie.Start
+start : tie.After-box-in2 → tie.Start
 start c = c .before .before .before .before
 
 -- the two flags are the definition's tests
-module _ (c : tie.After-span-in2) {t : Bool} where
+module _ (c : tie.After-box-in2) {t : Bool} where
   points : (c .before .before .before .point-in .result && c .before .before .point-in2 .result) ≡ t → every pointIn (axes (start c)) ≡ t
   unfolding axes start
-  points = every-two pointIn _ _ (c .before .before .before .point-in .ensures) (c .before .before .point-in2 .ensures)
+  points = every-two pointIn (start c .args .x) (start c .args .y) (c .before .before .before .point-in .ensures) (c .before .before .point-in2 .ensures)
 
-  spans : (c .before .span-in .result && c .span-in2 .result) ≡ t → every spanIn (axes (start c)) ≡ t
+  spans : (c .before .box-in .result && c .box-in2 .result) ≡ t → every boxIn (axes (start c)) ≡ t
   unfolding axes start
-  spans = every-two spanIn _ _ (c .before .span-in .ensures) (c .span-in2 .ensures)
+  spans = every-two boxIn (start c .args .x) (start c .args .y) (c .before .box-in .ensures) (c .box-in2 .ensures)
 
 point-in-requires : tie.Need-point-in-requires
 point-in-requires c κs = search needs
@@ -37,11 +37,11 @@ point-in-requires c κs = search needs
 point-in-requires-2 : tie.Need-point-in-requires-2
 point-in-requires-2 c κs = search needs
 
-span-in-requires : tie.Need-span-in-requires
-span-in-requires c κs = search needs
+box-in-requires : tie.Need-box-in-requires
+box-in-requires c κs = search needs
 
-span-in-requires-2 : tie.Need-span-in-requires-2
-span-in-requires-2 c κs = search needs
+box-in-requires-2 : tie.Need-box-in-requires-2
+box-in-requires-2 c κs = search needs
 
 returns : tie.Need-returns
 unfolding axes start
@@ -58,7 +58,7 @@ module _ (c : tie.Else2) where
   points-in : every pointIn (axes (start (c .before .before))) ≡ true
   points-in = points (c .before .before) (not-false _ (c .before .if1 .left))
 
-  spans-in : every spanIn (axes (start (c .before .before))) ≡ true
+  spans-in : every boxIn (axes (start (c .before .before))) ≡ true
   spans-in = spans (c .before .before) (not-false _ (c .if2 .left))
 
   ready : Each Ready (axes (start (c .before .before)))
@@ -95,8 +95,8 @@ judged-spec =
     (tie.spec
     point-in-requires
     point-in-requires-2
-    span-in-requires
-    span-in-requires-2
+    box-in-requires
+    box-in-requires-2
     returns
     returns-2
     enum-told
