@@ -5,3 +5,5 @@ pub mod Order
 pub mod Signed
 pub mod Squares
 pub mod Shifted
+pub mod Below
+pub mod Exactly

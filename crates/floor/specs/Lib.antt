@@ -1,0 +1,3 @@
+-- The bytes of a floor map, and what they say.
+pub mod Bytes
+pub mod View

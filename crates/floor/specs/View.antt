@@ -1,0 +1,99 @@
+-- What a floor map says, apart from where its bytes lie. Document 01, 'The floor map, byte by byte'.
+-- Slots are numbered through the whole map: slot i of node n is slot 8·n + i. Axis 0 is x, axis 1 is y.
+use mathlib.Core.Path.{_≡_}
+use mathlib.Core.Bool.{Bool}
+use mathlib.Core.List.{List}
+use Prim.Native.Nat.{ℕ, _+_, _*_, _/_, _%_, _^_, _<_, _≤_}
+use lib.Dec.{eqb}
+use lib.ListN.{length, getD}
+use Rattle.measure.specs.declared.Bounds.{Bounds}
+use Rattle.measure.specs.declared.Span.{Span}
+use Rattle.floor.specs.declared.Header.{Header}
+use Rattle.floor.specs.declared.Node.{Node}
+use Rattle.floor.specs.declared.Slot.{Slot}
+use Rattle.floor.specs.Bytes.{leAt, i32At}
+
+pub record View : Type 0 where
+  -- the header: how many bytes there are, N, the root, H, and whether its three zero bytes are zero
+  pub size : ℕ
+  pub count : ℕ
+  pub root : ℕ
+  pub height : ℕ
+  pub clear : Bool
+  -- a node: its level, its occupancy, and whether its two zero bytes are zero
+  pub level : ℕ → ℕ
+  pub occupied : ℕ → ℕ
+  pub nodeClear : ℕ → Bool
+  -- a slot: its span on an axis, its reference, its zone, and whether its three zero bytes are zero
+  pub span : ℕ → ℕ → Span
+  pub ref : ℕ → ℕ
+  pub zone : ℕ → ℕ
+  pub slotClear : ℕ → Bool
+
+-- how many axes there are
+abbrev pub axisCount : ℕ
+axisCount = 2
+
+abbrev pub headerSize : ℕ
+headerSize = 8
+
+-- where node n begins, where slot j begins, and how long a map of n nodes is
+abbrev pub nodeAt : ℕ → ℕ
+nodeAt n = 8 + 196 * n
+
+abbrev pub slotAt : ℕ → ℕ
+slotAt j = 12 + 196 * (j / 8) + 24 * (j % 8)
+
+abbrev pub mapSize : ℕ → ℕ
+mapSize n = 8 + 196 * n
+
+-- a span: low, then high
+abbrev pub spanAt : List ℕ → ℕ → Span
+spanAt m at = record { low = i32At m at; high = i32At m (at + 4) }
+
+unfoldable pub viewOf : List ℕ → View
+viewOf m =
+    record {
+      size = length m;
+      count = leAt 2 m 0;
+      root = leAt 2 m 2;
+      height = leAt 1 m 4;
+      clear = eqb (leAt 3 m 5) 0;
+      level = λ n. leAt 1 m (nodeAt n);
+      occupied = λ n. leAt 1 m (nodeAt n + 1);
+      nodeClear = λ n. eqb (leAt 2 m (nodeAt n + 2)) 0;
+      span = λ j a. spanAt m (slotAt j + 8 * a);
+      ref = λ j. leAt 4 m (slotAt j + 16);
+      zone = λ j. leAt 1 m (slotAt j + 20);
+      slotClear = λ j. eqb (leAt 3 m (slotAt j + 21)) 0;
+    }
+
+-- bit i of a node's occupancy is set when slot i is filled
+unfoldable pub filled : View → ℕ → Bool
+filled v j = eqb (v .occupied (j / 8) / 2 ^ (j % 8) % 2) 1
+
+abbrev pub boundsOf : View → ℕ → Bounds
+boundsOf v j = record { x = v .span j 0; y = v .span j 1 }
+
+abbrev pub slotOf : View → ℕ → Slot
+slotOf v j = record { bounds = boundsOf v j; reference = v .ref j; zone = v .zone j; clear = v .slotClear j }
+
+-- what the header rule gives to every reader of fields
+pub record Shaped (v : View) : Type 0 where
+  pub few : v .count ≤ 256
+  pub rooted : v .root < v .count
+  pub size : v .size ≡ mapSize (v .count)
+
+-- a header as it was read
+pub record HeaderRead (v : View) (h : Header) : Type 0 where
+  pub count : h .count ≡ v .count
+  pub root : h .root ≡ v .root
+  pub height : h .height ≡ v .height
+  pub clear : h .clear ≡ v .clear
+  pub small : h .count < 65536
+
+-- a node as it was read
+pub record NodeRead (v : View) (n : ℕ) (r : Node) : Type 0 where
+  pub level : r .level ≡ v .level n
+  pub occupied : r .occupied ≡ v .occupied n
+  pub clear : r .clear ≡ v .nodeClear n

@@ -1,0 +1,62 @@
+-- How tests that hold exactly when a property does are put together. Assumes nothing.
+use mathlib.Core.Path.{_≡_, refl, sym, _∙_}
+use mathlib.Core.Bool.{Bool, true, false, not, cond, _&&_, _||_, true≢false, false≢true}
+use mathlib.Core.Logic.{_⊎_, inl, inr, ⊎-elim}
+use Prim.Native.Nat.{ℕ, _<_, _≤_}
+use lib.Dec.{eqb, leb, ltb}
+use borrow.Author.Tests.{eqb-true, eqb-false, leb-true, ltb-true, eq-eqb, ne-eqb, le-leb, lt-ltb, not-true}
+use Rattle.numbers.specs.Below.{allBelow}
+use Rattle.numbers.specs.Exactly.{Exactly}
+use Rattle.numbers.proofs.Tests.{both}
+use Rattle.numbers.proofs.Below.{all-sound, all-complete}
+
+pub flag-is : (t : Bool) → Exactly t (t ≡ true)
+flag-is t = record { sound = λ e. e; complete = λ e. e }
+
+pub eq-is : (a b : ℕ) → Exactly (eqb a b) (a ≡ b)
+eq-is a b = record { sound = eqb-true a b; complete = eq-eqb a b }
+
+pub ne-is : (a b : ℕ) → Exactly (not (eqb a b)) (a ≡ b → ⊥)
+ne-is a b = record { sound = λ e. eqb-false a b (not-true _ e); complete = λ d. rw (ne-eqb a b d) }
+
+pub le-is : (a b : ℕ) → Exactly (leb a b) (a ≤ b)
+le-is a b = record { sound = leb-true a b; complete = le-leb a b }
+
+pub lt-is : (a b : ℕ) → Exactly (ltb a b) (a < b)
+lt-is a b = record { sound = ltb-true a b; complete = lt-ltb a b }
+
+pub and-is : {s t : Bool} {P Q : Type 0} → Exactly s P → Exactly t Q → Exactly (s && t) (P × Q)
+and-is {s} {t} a b =
+    record {
+      sound = λ e. let h = both s t e in (a .sound (h .0), b .sound (h .1));
+      complete = λ h. rw (a .complete (h .0), b .complete (h .1));
+    }
+
+or-cases : (s t : Bool) → (s || t) ≡ true → (s ≡ true) ⊎ (t ≡ true)
+or-cases true t e = inl refl
+or-cases false t e = inr e
+
+or-right : (s : Bool) → (s || true) ≡ true
+or-right true = refl
+or-right false = refl
+
+pub or-is : {s t : Bool} {P Q : Type 0} → Exactly s P → Exactly t Q → Exactly (s || t) (P ⊎ Q)
+or-is {s} {t} a b =
+    record {
+      sound = λ e. ⊎-elim (λ h. inl (a .sound h)) (λ h. inr (b .sound h)) (or-cases s t e);
+      complete = ⊎-elim (λ p. rw (a .complete p)) (λ q. rw (b .complete q) (or-right s));
+    }
+
+-- a choice between two tests: each property where its side was chosen
+pub cond-is : (c : Bool) {s t : Bool} {P Q : Type 0} → Exactly s P → Exactly t Q → Exactly (cond c s t) ((c ≡ true → P) × (c ≡ false → Q))
+cond-is true a b =
+    record { sound = λ e. (λ _. a .sound e, λ f. absurd (true≢false f)); complete = λ h. a .complete (h .0 refl) }
+cond-is false a b =
+    record { sound = λ e. (λ f. absurd (false≢true f), λ _. b .sound e); complete = λ h. b .complete (h .1 refl) }
+
+pub all-is : {p : ℕ → Bool} {P : ℕ → Type 0} → ((k : ℕ) → Exactly (p k) (P k)) → (n : ℕ) → Exactly (allBelow p n) ((k : ℕ) → k < n → P k)
+all-is {p} f n =
+    record {
+      sound = λ e k h. f k .sound (all-sound p n e k h);
+      complete = λ h. all-complete p n (λ k l. f k .complete (h k l));
+    }

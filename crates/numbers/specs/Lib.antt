@@ -1,0 +1,3 @@
+-- Definitions over numbers that other crates' definitions are made of.
+pub mod Below
+pub mod Exactly
