@@ -9,7 +9,7 @@ use lib.ListN.{length, getD}
 use mir.Syntax.{w8}
 use mir.Val.{Fits}
 use Rattle.floor.specs.Bytes.{leAt}
-use Rattle.floor.specs.View.{viewOf, nodeAt, slotAt, Shaped}
+use Rattle.floor.specs.View.{viewOf, headerSize, nodeAt, slotAt, Shaped}
 
 module _ (m : List ℕ) (b : (i : ℕ) → Fits w8 (getD m i 0)) where
   pub le-small : (k at : ℕ) → leAt k m at < 256 ^ k
@@ -48,6 +48,10 @@ le-joined m (suc j) k at =
     rw (e, f) (omega (arith, le-joined m j k (at + 1), p))
 
 module _ (m : List ℕ) (s : Shaped (viewOf m)) where
+  pub header-inside : headerSize ≤ length m
+  unfolding viewOf
+  header-inside = omega (arith, s .size)
+
   pub node-inside : (n : ℕ) → n < viewOf m .count → nodeAt n + 196 ≤ length m
   unfolding viewOf
   node-inside n h = omega (arith, s .size)

@@ -1,7 +1,7 @@
 -- What a floor map says, apart from where its bytes lie. Document 01, 'The floor map, byte by byte'.
 -- Slots are numbered through the whole map: slot i of node n is slot 8·n + i. Axis 0 is x, axis 1 is y.
 use mathlib.Core.Path.{_≡_}
-use mathlib.Core.Bool.{Bool}
+use mathlib.Core.Bool.{Bool, not, _&&_}
 use mathlib.Core.List.{List}
 use Prim.Native.Nat.{ℕ, _+_, _*_, _/_, _%_, _^_, _<_, _≤_}
 use lib.Dec.{eqb}
@@ -71,6 +71,17 @@ viewOf m =
 -- bit i of a node's occupancy is set when slot i is filled
 unfoldable pub filled : View → ℕ → Bool
 filled v j = eqb (v .occupied (j / 8) / 2 ^ (j % 8) % 2) 1
+
+-- a leaf is a node of level 0
+abbrev pub leaf : View → ℕ → Bool
+leaf v n = eqb (v .level n) 0
+
+-- a filled slot of a leaf is a bay; any other filled slot names a node
+abbrev pub bay : View → ℕ → Bool
+bay v j = leaf v (j / 8) && filled v j
+
+abbrev pub link : View → ℕ → Bool
+link v j = not (leaf v (j / 8)) && filled v j
 
 abbrev pub boundsOf : View → ℕ → Bounds
 boundsOf v j = record { x = v .span j 0; y = v .span j 1 }

@@ -43,7 +43,8 @@ pub fn has_header(map: &[u8]) -> bool
     8 <= map.len()
 }
 
-pub fn header_of(map: &[u8]) -> Header
+// The header's fields, where there are bytes enough, whatever they say.
+pub fn read_header(map: &[u8]) -> Header
     requires { ⌜ headerSize ≤ length (now map) ⌝ }
     ensures { λ r. ⌜ HeaderRead (viewOf (now (map .entry))) r ⌝ }
 {
@@ -78,11 +79,32 @@ pub fn size_for(n: usize) -> usize
     8 + 196 * n
 }
 
+pub fn header_of(map: &[u8]) -> Header
+    requires { ⌜ Shaped (viewOf (now map)) ⌝ }
+    ensures { λ r. ⌜ HeaderRead (viewOf (now (map .entry))) r ⌝ }
+{
+    read_header(map)
+}
+
 pub fn count_of(map: &[u8]) -> usize
-    requires { ⌜ headerSize ≤ length (now map) ⌝ }
+    requires { ⌜ Shaped (viewOf (now map)) ⌝ }
     ensures { λ r. ⌜ r ≡ viewOf (now (map .entry)) .count ⌝ }
 {
     header_of(map).count
+}
+
+pub fn root_of(map: &[u8]) -> usize
+    requires { ⌜ Shaped (viewOf (now map)) ⌝ }
+    ensures { λ r. ⌜ r ≡ viewOf (now (map .entry)) .root ⌝ }
+{
+    header_of(map).root
+}
+
+pub fn height_of(map: &[u8]) -> u8
+    requires { ⌜ Shaped (viewOf (now map)) ⌝ }
+    ensures { λ r. ⌜ r ≡ viewOf (now (map .entry)) .height ⌝ }
+{
+    header_of(map).height
 }
 
 pub fn level_of(map: &[u8], n: usize) -> u8

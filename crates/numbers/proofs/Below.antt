@@ -28,6 +28,13 @@ module _ (p : ℕ → Bool) where
   pub all-more : (i : ℕ) → allBelow p (i + 1) ≡ (allBelow p i && p i)
   all-more i = rw add-one
 
+  -- a flag that a loop keeps: at its start, after a turn, and at its end
+  pub all-step : (i : ℕ) {ok t : Bool} → ok ≡ allBelow p i → t ≡ p i → (ok && t) ≡ allBelow p (i + 1)
+  all-step i d e = rw (all-more i, d, e)
+
+  pub all-end : (i n : ℕ) {ok : Bool} → ok ≡ allBelow p i → i ≡ n → ok ≡ allBelow p n
+  all-end i n d e = d ∙ ap (allBelow p) e
+
   pub any-more : (i : ℕ) → anyBelow p (i + 1) ≡ (anyBelow p i || p i)
   any-more i = rw add-one
 

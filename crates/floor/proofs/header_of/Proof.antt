@@ -1,54 +1,15 @@
--- `floor::header_of` meets its contract: its eight bytes, taken apart.
+-- `floor::header_of` meets its contract: a map in shape has a header.
 -- Assumes nothing.
-use mathlib.Core.Path.{_≡_, ap, _∙_}
-use Prim.Native.Nat.{ℕ}
-use native.Mathlib.Omega.{arith}
-use lib.Dec.{eqb}
-use Rattle.floor.specs.View.{viewOf}
-use Rattle.floor.proofs.Words.{word-first, word-rest, le-small}
 use borrow.Author.Needs.{needs}
+use Rattle.floor.proofs.Words.{header-inside}
 use Rattle.floor.proofs.header_of.Statement.{statement}
 use Rattle.floor.proofs.header_of.Tie as tie
 
-u16-at-requires : tie.Need-u16-at-requires
-u16-at-requires c κs = search needs
-
-cast-count : tie.Need-cast-count
-cast-count c = search needs
-
-u16-at-requires-2 : tie.Need-u16-at-requires-2
-u16-at-requires-2 c κs = search needs
-
-cast-root : tie.Need-cast-root
-cast-root c = search needs
-
-u32-at-requires : tie.Need-u32-at-requires
-u32-at-requires c κs = search needs
-
-cast-t7 : tie.Need-cast-t7
-cast-t7 c = search needs
+read-header-requires : tie.Need-read-header-requires
+read-header-requires c κs = header-inside _ (c .before .pre)
 
 returns : tie.Need-returns
-unfolding viewOf
-returns c =
-    let s = c .before .before .before .before in
-    let b = c .before .before .before .shared-slice-known .given in
-    record {
-      count = c .before .before .u16-at .ensures;
-      root = c .before .u16-at2 .ensures;
-      height = word-first (s .args .map .now) b 3 4 (c .u32-at .ensures);
-      clear = ap (λ (x : ℕ). eqb x 0) (word-rest (s .args .map .now) b 3 4 (c .u32-at .ensures));
-      small = omega (arith, c .before .before .u16-at .ensures, le-small (s .args .map .now) b 2 0);
-    }
+returns c = search needs
 
 pub header-of-spec : {M : Type 1} → statement M
-header-of-spec =
-    tie.close
-    (tie.spec
-    u16-at-requires
-    cast-count
-    u16-at-requires-2
-    cast-root
-    u32-at-requires
-    cast-t7
-    returns)
+header-of-spec = tie.close (tie.spec read-header-requires returns)

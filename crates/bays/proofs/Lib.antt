@@ -1,0 +1,3 @@
+-- The laws of the certificate.
+mod Search
+pub mod Found
