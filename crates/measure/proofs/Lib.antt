@@ -1,5 +1,5 @@
 -- The laws of the measures, by subject.
-mod Range
+pub mod Range
 mod Answers
 pub mod Nearest
 pub mod Theorems

@@ -22,6 +22,10 @@ ordered (suc a) (suc b) =
 last : (P : ℕ → Type 0) (n k : ℕ) → k < suc n → (k < n → P k) → P n → P k
 last P n k h f g = ⊎-elim f (⊎-elim (λ e. rw e g) (λ l. absurd (omega arith))) (ordered k n)
 
+pub one-most : (t : Bool) → one t ≤ 1
+one-most true = omega arith
+one-most false = omega arith
+
 module _ (p : ℕ → Bool) where
   -- ---- a loop's step
 
@@ -71,6 +75,10 @@ module _ (p : ℕ → Bool) where
 
   one-true : (t : Bool) → t ≡ true → one t ≡ 1
   one-true t e = rw e
+
+  pub count-most : (n : ℕ) → countBelow p n ≤ n
+  count-most zero = omega arith
+  count-most (suc n) = omega (arith, count-most n, one-most (p n))
 
   pub count-some : (n k : ℕ) → k < n → p k ≡ true → 1 ≤ countBelow p n
   count-some zero k h e = absurd (omega arith)

@@ -1,10 +1,11 @@
 -- How tests that hold exactly when a property does are put together. Assumes nothing.
-use mathlib.Core.Path.{_≡_, refl, sym, _∙_}
+use mathlib.Core.Path.{_≡_, refl}
 use mathlib.Core.Bool.{Bool, true, false, not, cond, _&&_, _||_, true≢false, false≢true}
 use mathlib.Core.Logic.{_⊎_, inl, inr, ⊎-elim}
-use Prim.Native.Nat.{ℕ, _<_, _≤_}
+use Prim.Native.Nat.{ℕ, _+_, _*_, _/_, _%_, _<_, _≤_}
+use native.Mathlib.Omega.{arith}
 use lib.Dec.{eqb, leb, ltb}
-use borrow.Author.Tests.{eqb-true, eqb-false, leb-true, ltb-true, eq-eqb, ne-eqb, le-leb, lt-ltb, not-true}
+use borrow.Author.Tests.{eqb-true, leb-true, ltb-true, eq-eqb, le-leb, lt-ltb}
 use Rattle.numbers.specs.Below.{allBelow}
 use Rattle.numbers.specs.Exactly.{Exactly}
 use Rattle.numbers.proofs.Tests.{both}
@@ -16,8 +17,12 @@ flag-is t = record { sound = λ e. e; complete = λ e. e }
 pub eq-is : (a b : ℕ) → Exactly (eqb a b) (a ≡ b)
 eq-is a b = record { sound = eqb-true a b; complete = eq-eqb a b }
 
+pub not-is : (t : Bool) {P : Type 0} → Exactly t P → Exactly (not t) (P → ⊥)
+not-is true a = record { sound = λ e. absurd (false≢true e); complete = λ h. absurd (h (a .sound refl)) }
+not-is false a = record { sound = λ e p. false≢true (a .complete p); complete = λ h. refl }
+
 pub ne-is : (a b : ℕ) → Exactly (not (eqb a b)) (a ≡ b → ⊥)
-ne-is a b = record { sound = λ e. eqb-false a b (not-true _ e); complete = λ d. rw (ne-eqb a b d) }
+ne-is a b = not-is (eqb a b) (eq-is a b)
 
 pub le-is : (a b : ℕ) → Exactly (leb a b) (a ≤ b)
 le-is a b = record { sound = leb-true a b; complete = le-leb a b }
@@ -47,6 +52,15 @@ or-is {s} {t} a b =
       complete = ⊎-elim (λ p. rw (a .complete p)) (λ q. rw (b .complete q) (or-right s));
     }
 
+-- the same test for a property in other words
+pub means : {t : Bool} {P Q : Type 0} → Exactly t P → (P → Q) → (Q → P) → Exactly t Q
+means a f g = record { sound = λ e. f (a .sound e); complete = λ q. a .complete (g q) }
+
+-- a test made only where c holds
+pub when-is : (c : Bool) {t : Bool} {P : Type 0} → Exactly t P → Exactly (cond c t true) (c ≡ true → P)
+when-is true a = record { sound = λ e _. a .sound e; complete = λ h. a .complete (h refl) }
+when-is false a = record { sound = λ e f. absurd (false≢true f); complete = λ h. refl }
+
 -- a choice between two tests: each property where its side was chosen
 pub cond-is : (c : Bool) {s t : Bool} {P Q : Type 0} → Exactly s P → Exactly t Q → Exactly (cond c s t) ((c ≡ true → P) × (c ≡ false → Q))
 cond-is true a b =
@@ -60,3 +74,14 @@ all-is {p} f n =
       sound = λ e k h. f k .sound (all-sound p n e k h);
       complete = λ h. all-complete p n (λ k l. f k .complete (h k l));
     }
+
+-- every number below 8 · n is 8 · m + i for an m below n and an i below 8
+pub by-eights : (P : ℕ → Type 0) (n : ℕ) → ((m : ℕ) → m < n → (i : ℕ) → i < 8 → P (8 * m + i)) → (k : ℕ) → k < 8 * n → P k
+by-eights P n h k l =
+    let e : 8 * (k / 8) + k % 8 ≡ k = omega arith in
+    rw e at (h (k / 8) (omega arith) (k % 8) (omega arith))
+
+-- a test of every number below 8 · n, made eight at a time
+pub eights-is : {p : ℕ → Bool} {P : ℕ → Type 0} → ((k : ℕ) → Exactly (p k) (P k)) → (n : ℕ) → Exactly (allBelow (λ m. allBelow (λ i. p (8 * m + i)) 8) n) ((k : ℕ) → k < 8 * n → P k)
+eights-is {p} {P} f n =
+    means (all-is (λ m. all-is (λ i. f (8 * m + i)) 8) n) (by-eights P n) (λ h m l i b. h (8 * m + i) (omega arith))

@@ -1,0 +1,5 @@
+-- The laws of the rules.
+pub mod Exact
+pub mod Verdicts
+pub mod Hull
+mod Counts

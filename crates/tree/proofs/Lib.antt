@@ -1,0 +1,3 @@
+-- What acceptance gives, and two maps that are accepted.
+pub mod Tree
+pub mod Examples
