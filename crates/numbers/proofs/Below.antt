@@ -80,6 +80,13 @@ module _ (p : ℕ → Bool) where
   count-most zero = omega arith
   count-most (suc n) = omega (arith, count-most n, one-most (p n))
 
+  -- numbers that do not pass may be skipped
+  pub count-skip : (j k : ℕ) → ((i : ℕ) → i < k → p (j + i) ≡ false) → countBelow p (j + k) ≡ countBelow p j
+  count-skip j zero h = let e : j + zero ≡ j = omega arith in rw e
+  count-skip j (suc k) h =
+      let e : j + suc k ≡ suc (j + k) = omega arith in
+      rw (e, h k (omega arith)) (omega (arith, count-skip j k (λ i l. h i (omega arith))))
+
   pub count-some : (n k : ℕ) → k < n → p k ≡ true → 1 ≤ countBelow p n
   count-some zero k h e = absurd (omega arith)
   count-some (suc n) k h e =

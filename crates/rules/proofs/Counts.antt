@@ -1,9 +1,10 @@
--- The naming counts: one slot more adds one to the count of the node that it names, and nothing to any other.
+-- The naming counts: one slot more adds one to the count of the node that it names, and nothing to any other; the slots
+-- of a leaf add nothing.
 -- Assumes nothing.
 use mathlib.Core.Path.{_≡_, refl, sym, ap, _∙_}
 use mathlib.Core.Bool.{Bool, true, false, cond, _&&_}
 use mathlib.Core.List.{List}
-use Prim.Native.Nat.{ℕ, _+_, _*_, _%_, _<_, _≤_}
+use Prim.Native.Nat.{ℕ, _+_, _*_, _-_, _/_, _%_, _<_, _≤_}
 use native.Mathlib.Omega.{arith}
 use native.Mathlib.Decide.{ℕ-discrete}
 use borrow.Author.Tests.{eq-eqb, ne-eqb}
@@ -11,9 +12,24 @@ use lib.Dec.{eqb}
 use lib.ListN.{length, getD, set}
 use lib.Seq.{getD-set-same, getD-set-other}
 use Rattle.numbers.specs.Below.{one, countBelow}
-use Rattle.numbers.proofs.Below.{count-more}
-use Rattle.floor.specs.View.{View, link}
+use Rattle.numbers.proofs.Below.{count-more, count-skip}
+use Rattle.floor.specs.View.{View, filled, leaf, link}
 use Rattle.rules.specs.Links.{names}
+
+-- above the leaves every filled slot names a node
+pub link-above : (v : View) (j : ℕ) → leaf v (j / 8) ≡ false → link v j ≡ filled v j
+link-above v j e = rw e
+
+-- from any slot of a leaf to the next node
+pub leaf-skip : (v : View) (t j : ℕ) → leaf v (j / 8) ≡ true → countBelow (names v t) (8 * (j / 8) + 8) ≡ countBelow (names v t) j
+leaf-skip v t j l =
+    let next : 8 * (j / 8) + 8 ≡ j + (8 - j % 8) = omega arith in
+    rw next (count-skip (names v t) j (8 - j % 8) none)
+  where
+    none : (i : ℕ) → i < 8 - j % 8 → names v t (j + i) ≡ false
+    none i h =
+        let home : (j + i) / 8 ≡ j / 8 = omega arith in
+        rw (home, l)
 
 module _ (v : View) (j : ℕ) (few : v .count ≤ 256) (leads : link v j ≡ true → v .ref j < v .count) where
   -- what slot j adds to the count of node t, found by the remainder

@@ -7,29 +7,30 @@ ghost use Rattle.floor.specs.View.{viewOf, filled, link, Shaped};
 ghost use Rattle.rules.specs.Links.{named, namedOk, stepOk};
 ghost use Rattle.rules.specs.Verdicts.{Counted};
 
-fn is_link(map: &[u8], j: usize) -> bool
-    requires { ⌜ Shaped (viewOf (now map)) × (j < 8 * viewOf (now map) .count) ⌝ }
-    ensures { λ r. ⌜ r ≡ link (viewOf (now (map .entry))) j ⌝ }
-{
-    (floor::level_of(map, j / 8) != 0) & floor::is_filled(map, j)
-}
-
 fn once(t: bool) -> u16
     ensures { λ r. ⌜ r ≡ one t ⌝ }
 {
     if t { 1 } else { 0 }
 }
 
-// How many slots name each node. The number of a node is below 256, so that the remainder cuts only where nothing is added.
+// How many slots name each node; a leaf is passed over whole. The number of a node is below 256, so that the remainder
+// cuts only where nothing is added.
 pub fn naming_counts(map: &[u8]) -> [u16; 256]
     requires { ⌜ Shaped (viewOf (now map)) × ((j : ℕ) → j < 8 * viewOf (now map) .count → link (viewOf (now map)) j ≡ true → viewOf (now map) .ref j < viewOf (now map) .count) ⌝ }
     ensures { λ r. ⌜ Counted (viewOf (now (map .entry))) r ⌝ }
 {
     let slots = 8 * floor::count_of(map);
     let mut counts = [0u16; 256];
-    for j in 0..slots {
-        let t = (floor::ref_of(map, j) % 256) as usize;
-        counts[t] = counts[t] + once(is_link(map, j));
+    let mut j = 0;
+    while j < slots {
+        let n = j / 8;
+        if floor::level_of(map, n) == 0 {
+            j = 8 * n + 8;
+        } else {
+            let t = (floor::ref_of(map, j) % 256) as usize;
+            counts[t] = counts[t] + once(floor::is_filled(map, j));
+            j += 1;
+        }
     }
     counts
 }
