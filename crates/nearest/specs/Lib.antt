@@ -1,0 +1,2 @@
+-- The badge.
+pub mod Badge
