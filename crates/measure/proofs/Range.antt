@@ -47,6 +47,22 @@ module _ (a b : ℤ) (h : inRange a ≡ true) (k : inRange b ≡ true) where
   square-small =
       omega (arith, difference-small, mul-le-mul difference-small difference-small, ap natAbs (square-size (a -ℤ b)))
 
+-- ---- a span in order
+
+module _ (s : Span) (h : spanIn s ≡ true) where
+  span-tests : (inRange (s .low) && inRange (s .high) ≡ true) × (leZ (s .low) (s .high) ≡ true)
+  unfolding spanIn
+  span-tests = both _ _ h
+
+  pub span-low : inRange (s .low) ≡ true
+  span-low = both _ _ (span-tests .0) .0
+
+  pub span-high : inRange (s .high) ≡ true
+  span-high = both (inRange (s .low)) _ (span-tests .0) .1
+
+  pub span-ordered : s .low ≤ℤ s .high
+  span-ordered = test-le (span-tests .1)
+
 -- ---- one axis that nothing refuses
 
 module _ {a : Axis} (h : Ready a) where
@@ -54,18 +70,14 @@ module _ {a : Axis} (h : Ready a) where
   unfolding pointIn
   at-in = h .point
 
-  span-tests : (inRange (a .span .low) && inRange (a .span .high) ≡ true) × (leZ (a .span .low) (a .span .high) ≡ true)
-  unfolding spanIn
-  span-tests = both _ _ (h .span)
-
   pub low-in : inRange (a .span .low) ≡ true
-  low-in = both _ _ (span-tests .0) .0
+  low-in = span-low (a .span) (h .span)
 
   pub high-in : inRange (a .span .high) ≡ true
-  high-in = both (inRange (a .span .low)) _ (span-tests .0) .1
+  high-in = span-high (a .span) (h .span)
 
   pub ordered : a .span .low ≤ℤ a .span .high
-  ordered = test-le (span-tests .1)
+  ordered = span-ordered (a .span) (h .span)
 
   pub nearest-in : inRange (nearestOn a) ≡ true
   unfolding nearestOn

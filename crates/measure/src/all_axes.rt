@@ -30,7 +30,7 @@ impl SquaredMm {
     }
 }
 
-fn min_over(x: Axis, y: Axis) -> SquaredMm
+pub fn min_over(x: Axis, y: Axis) -> SquaredMm
     requires { ⌜ Each Ready (x ∷ y ∷ []) ⌝ }
     ensures { λ r. ⌜ r .0 ≡ minDist (x ∷ y ∷ []) ⌝ }
 {

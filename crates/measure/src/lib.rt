@@ -7,10 +7,12 @@ mod root;
 
 pub use root::plain;
 ghost use mathlib.Core.Path.{_≡_};
-ghost use Rattle.measure.specs.Axes.{minDist, minMaxDist};
+ghost use Rattle.measure.specs.Axes.{Each, minDist, minMaxDist};
+ghost use Rattle.measure.specs.Axis.{Ready};
 ghost use Rattle.measure.specs.Answer.{onX, onY, axesOf, measureOf, measuredBy, replyOf};
 use all_axes::Kind;
 use all_axes::judged;
+use all_axes::min_over;
 
 // A squared distance, in square millimetres.
 pub struct SquaredMm(pub u64);
@@ -85,6 +87,14 @@ pub fn minmaxdist(p: Point, b: Bounds) -> Measured
     ensures { λ r. ⌜ replyOf r ≡ measuredBy minMaxDist (axesOf p b) ⌝ }
 {
     answered(Kind::MinMax, p, b)
+}
+
+// MINDIST of a point and a box that nothing refuses: for a search, which has made the tests once and asks many times.
+pub fn squared_gap(p: Point, b: Bounds) -> SquaredMm
+    requires { ⌜ Each Ready (axesOf p b) ⌝ }
+    ensures { λ r. ⌜ r .0 ≡ minDist (axesOf p b) ⌝ }
+{
+    min_over(on_x(p, b), on_y(p, b))
 }
 
 // Who makes the list of axes.

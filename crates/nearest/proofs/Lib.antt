@@ -1,0 +1,2 @@
+-- The laws that the search leans on.
+pub mod Prune
