@@ -1,2 +1,5 @@
 -- The laws that the search leans on.
+pub mod Before
 pub mod Prune
+pub mod Spanning
+pub mod Page

@@ -1,2 +1,4 @@
--- The badge.
+-- The badge, the order of bays, and what a badge is shown.
 pub mod Badge
+pub mod Shown
+pub mod Below

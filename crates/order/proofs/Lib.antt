@@ -2,6 +2,7 @@
 -- what comes after, the turn in which elements come, parts in any turn, and insertion in place. Assumes nothing.
 pub mod Place
 pub mod Only
+pub mod Parts
 pub mod Kept
 pub mod Sorting
 pub mod After
