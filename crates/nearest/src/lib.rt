@@ -1,6 +1,7 @@
 // The nearest bays that a badge may see: the badge, the list of the best so far, the search down an accepted map.
 // A question's reply calls this; it knows maps through `floor` and distances through `measure`.
 mod badge;
+mod best;
 mod near_bay;
 
 pub use badge::Badge;
