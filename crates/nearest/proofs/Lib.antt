@@ -3,3 +3,4 @@ pub mod Before
 pub mod Prune
 pub mod Spanning
 pub mod Page
+pub mod Offer

@@ -2,3 +2,4 @@
 pub mod Badge
 pub mod Shown
 pub mod Below
+pub mod Best
