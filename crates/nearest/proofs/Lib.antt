@@ -4,3 +4,4 @@ pub mod Prune
 pub mod Spanning
 pub mod Page
 pub mod Offer
+pub mod Ready

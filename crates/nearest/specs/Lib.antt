@@ -3,3 +3,4 @@ pub mod Badge
 pub mod Shown
 pub mod Below
 pub mod Best
+pub mod Ground

@@ -3,6 +3,7 @@
 mod badge;
 mod best;
 mod near_bay;
+mod slots;
 
 pub use badge::Badge;
 pub use near_bay::NearBay;

@@ -1,0 +1,23 @@
+-- The box of a filled slot of an accepted map is one that no measure refuses. Assumes nothing.
+use Prim.Native.Nat.{ℕ, _*_, _<_}
+use native.Mathlib.Omega.{arith}
+use mathlib.Core.Path.{_≡_}
+use mathlib.Core.Bool.{true}
+use Rattle.measure.specs.declared.Point.{Point}
+use Rattle.measure.specs.Axis.{Ready, pointIn, inRange}
+use Rattle.measure.specs.Axes.{Each}
+use Rattle.measure.specs.Answer.{axesOf}
+use Rattle.floor.specs.View.{View, Shaped, axisCount, boundsOf, filled}
+use Rattle.tree.proofs.Tree.{entry-in-range}
+use Rattle.nearest.specs.Ground.{Ground}
+
+module _ (v : View) (p : Point) (g : Ground v p) where
+  pub ground-shaped : Shaped v
+  ground-shaped = let h = g .keeps .header in record { few = omega arith; rooted = omega arith; size = h .1 .1 }
+
+  pub slot-ready : (j : ℕ) → j < 8 * v .count → filled v j ≡ true → Each Ready (axesOf p (boundsOf v j))
+  unfolding pointIn
+  slot-ready j h f = (ready 0 (omega arith) (p .x) (g .x), (ready 1 (omega arith) (p .y) (g .y), tt))
+    where
+      ready : (a : ℕ) → a < axisCount → (at : _) → inRange at ≡ true → Ready (record { at = at; span = v .span j a })
+      ready a k at e = record { point = e; span = entry-in-range v (g .keeps) j a h k f }
