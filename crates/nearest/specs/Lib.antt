@@ -4,3 +4,4 @@ pub mod Shown
 pub mod Below
 pub mod Best
 pub mod Ground
+pub mod Asked

@@ -3,8 +3,11 @@
 mod badge;
 mod best;
 mod near_bay;
+mod query;
 mod slots;
 
 pub use badge::Badge;
 pub use near_bay::NearBay;
 pub use near_bay::is_before;
+pub use query::Mark;
+pub use query::Query;
