@@ -5,3 +5,4 @@ pub mod Spanning
 pub mod Page
 pub mod Offer
 pub mod Ready
+pub mod Searching

@@ -5,3 +5,4 @@ pub mod Below
 pub mod Best
 pub mod Ground
 pub mod Asked
+pub mod Searched

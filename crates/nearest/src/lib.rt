@@ -2,6 +2,7 @@
 // A question's reply calls this; it knows maps through `floor` and distances through `measure`.
 mod badge;
 mod best;
+mod leaf;
 mod near_bay;
 mod query;
 mod slots;
