@@ -6,3 +6,4 @@ pub mod Page
 pub mod Offer
 pub mod Ready
 pub mod Searching
+pub mod Arrays

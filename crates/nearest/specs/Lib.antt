@@ -6,3 +6,4 @@ pub mod Best
 pub mod Ground
 pub mod Asked
 pub mod Searched
+pub mod Reach

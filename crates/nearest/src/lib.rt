@@ -5,6 +5,7 @@ mod best;
 mod leaf;
 mod near_bay;
 mod query;
+mod reach;
 mod slots;
 
 pub use badge::Badge;

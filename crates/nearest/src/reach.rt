@@ -1,0 +1,54 @@
+// How far each slot of a node is, and which is nearest.
+ghost use mathlib.Core.Path.{_≡_};
+ghost use Prim.Native.Nat.{ℕ, _*_, _<_, _≤_};
+ghost use lib.ListN.{getD};
+ghost use Rattle.floor.specs.View.{viewOf};
+ghost use Rattle.nearest.specs.Shown.{distanceTo};
+ghost use Rattle.nearest.specs.Ground.{Ground};
+ghost use Rattle.nearest.specs.Reach.{gapOf, Reach};
+use crate::slots::gap_to;
+use floor::is_filled;
+use measure::Point;
+
+// Farther than any slot.
+pub const BEYOND: u64 = 18446744073709551615;
+
+// How far a slot is, if it is filled.
+pub fn gap(map: &[u8], p: Point, j: usize) -> u64
+    requires { ⌜ Ground (viewOf (now map)) p × (j < 8 * viewOf (now map) .count) ⌝ }
+    ensures { λ r. ⌜ r ≡ gapOf (viewOf (now (map .entry))) (distanceTo (viewOf (now (map .entry))) p) j ⌝ }
+{
+    if is_filled(map, j) {
+        return gap_to(map, p, j).0;
+    }
+    BEYOND
+}
+
+// How far each slot of a node is.
+pub fn gaps(map: &[u8], p: Point, node: usize) -> [u64; 8]
+    requires { ⌜ Ground (viewOf (now map)) p × (node < viewOf (now map) .count) ⌝ }
+    ensures { λ r. ⌜ Reach (viewOf (now (map .entry))) (distanceTo (viewOf (now (map .entry))) p) node r ⌝ }
+{
+    let mut ds = [0; 8];
+    let mut i: usize = 0;
+    while i < 8 {
+        ds[i] = gap(map, p, 8 * node + i);
+        i += 1;
+    }
+    ds
+}
+
+// The slot that is nearest.
+pub fn least(ds: [u64; 8]) -> usize
+    ensures { λ r. ⌜ (r < 8) × ((i : ℕ) → i < 8 → getD ds r 0 ≤ getD ds i 0) ⌝ }
+{
+    let mut at: usize = 0;
+    let mut i: usize = 1;
+    while i < 8 {
+        if ds[i] < ds[at] {
+            at = i;
+        }
+        i += 1;
+    }
+    at
+}
