@@ -7,3 +7,4 @@ pub mod Offer
 pub mod Ready
 pub mod Searching
 pub mod Arrays
+pub mod Takes

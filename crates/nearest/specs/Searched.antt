@@ -1,12 +1,16 @@
 -- What a search makes of a best list: the first k of it and of those bays below that the question wants. The turn in
 -- which they come does not show.
 use mathlib.Core.Path.{_≡_}
+use mathlib.Core.Bool.{Bool, _&&_, _||_}
 use mathlib.Core.List.{List}
+use Prim.Native.Nat.{ℕ}
+use lib.Dec.{ltb}
+use Rattle.floor.specs.View.{View, filled}
 use Rattle.order.specs.Order.{keepAll, only}
 use Rattle.nearest.specs.declared.near_bay.NearBay.{NearBay}
 use Rattle.nearest.specs.declared.best.Best.{Best}
 use Rattle.nearest.specs.declared.query.Query.{Query}
-use Rattle.nearest.specs.Shown.{earlier}
+use Rattle.nearest.specs.Shown.{earlier, nearBay}
 use Rattle.nearest.specs.Asked.{wantedBy}
 use Rattle.nearest.specs.Best.{listOf, Carried}
 
@@ -14,3 +18,8 @@ use Rattle.nearest.specs.Best.{listOf, Carried}
 pub record Searched (q : Query) (es : List NearBay) (b r : Best) : Type 0 where
   pub carried : Carried (q .k) r
   pub is : listOf r ≡ keepAll earlier (q .k) (only (wantedBy q) es) (listOf b)
+
+-- whether the bay in slot j goes into a list of len bays, of which the kth, if there is one, is last
+abbrev pub takenOf : View → (ℕ → ℕ) → Query → ℕ → ℕ → NearBay → Bool
+takenOf v distance q j len last =
+    filled v j && (wantedBy q (nearBay v distance j) && (ltb len (q .k) || earlier (nearBay v distance j) last))
