@@ -13,7 +13,7 @@ use Rattle.numbers.proofs.Tests.{both}
 use Rattle.floor.specs.View.{View, filled, leaf, bay, link}
 use Rattle.rules.specs.Verdicts.{Keeps}
 use Rattle.tree.specs.Below.{Under, here, down}
-use Rattle.tree.proofs.Tree.{link-leads, link-falls, covered, siblings-apart, bays-apart}
+use Rattle.tree.proofs.Tree.{rooted, link-leads, link-falls, covered, siblings-apart, bays-apart}
 use Rattle.order.specs.Order.{Apart, Cross, Distinct, Same, gather}
 use Rattle.order.proofs.Place.{by-test}
 use Rattle.order.proofs.Only.{gather-each}
@@ -148,11 +148,8 @@ module _ (v : View) (keeps : Keeps v) (distance : ℕ → ℕ) where
 
   -- ---- the root
 
-  rooted : v .root < v .count
-  rooted = let h = keeps .header in omega arith
-
   pub root-distinct : Distinct earlier (nodeBays v distance (v .level (v .root)) (v .root))
-  root-distinct = node-distinct (v .level (v .root)) (v .root) rooted refl
+  root-distinct = node-distinct (v .level (v .root)) (v .root) (rooted v keeps) refl
 
   pub flat-distinct : Distinct earlier (allBays v distance)
   unfolding allBays Distinct
@@ -170,7 +167,7 @@ module _ (v : View) (keeps : Keeps v) (distance : ℕ → ℕ) where
   -- going down from the root reaches every bay, and nothing else
   pub spanning : Same (nodeBays v distance (v .level (v .root)) (v .root)) (allBays v distance)
   unfolding allBays
-  spanning = record { there = λ x m. listed x (from-node (v .level (v .root)) (v .root) rooted refl x m); back = gather-each Reached (bayIn v distance) (8 * v .count) reached }
+  spanning = record { there = λ x m. listed x (from-node (v .level (v .root)) (v .root) (rooted v keeps) refl x m); back = gather-each Reached (bayIn v distance) (8 * v .count) reached }
     where
       Reached : NearBay → Type 0
       Reached x = List·Memᴰ x (nodeBays v distance (v .level (v .root)) (v .root))

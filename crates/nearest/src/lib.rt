@@ -1,5 +1,6 @@
 // The nearest bays that a badge may see: the badge, the list of the best so far, the search down an accepted map.
 // A question's reply calls this; it knows maps through `floor` and distances through `measure`.
+// What reads a map has a `requires`: the reply has checked the map and the question, once, before it searches.
 mod badge;
 mod best;
 mod leaf;

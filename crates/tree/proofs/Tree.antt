@@ -71,7 +71,7 @@ module _ (v : View) (keeps : Keeps v) where
 
   -- ---- the slot that names a node: none names the root, and just one any other
 
-  rooted : v .root < v .count
+  pub rooted : v .root < v .count
   rooted = let h = keeps .header in omega arith
 
   node-low : (n : ℕ) → n < v .count → v .level n < v .height
