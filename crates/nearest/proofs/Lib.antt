@@ -3,8 +3,8 @@ pub mod Before
 pub mod Prune
 pub mod Spanning
 pub mod Page
-pub mod Offer
 pub mod Ready
+pub mod Keys
+pub mod Offer
 pub mod Searching
-pub mod Arrays
 pub mod Takes

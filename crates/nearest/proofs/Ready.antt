@@ -7,6 +7,7 @@ use Rattle.measure.specs.declared.Point.{Point}
 use Rattle.measure.specs.Axis.{Ready, pointIn, inRange}
 use Rattle.measure.specs.Axes.{Each}
 use Rattle.measure.specs.Answer.{axesOf}
+use Rattle.numbers.proofs.Tests.{both}
 use Rattle.floor.specs.View.{View, Shaped, axisCount, boundsOf, filled}
 use Rattle.tree.proofs.Tree.{entry-in-range}
 use Rattle.nearest.specs.Ground.{Ground}
@@ -17,7 +18,9 @@ module _ (v : View) (p : Point) (g : Ground v p) where
 
   pub slot-ready : (j : ℕ) → j < 8 * v .count → filled v j ≡ true → Each Ready (axesOf p (boundsOf v j))
   unfolding pointIn
-  slot-ready j h f = (ready 0 (omega arith) (p .x) (g .x), (ready 1 (omega arith) (p .y) (g .y), tt))
+  slot-ready j h f =
+      let on = both (inRange (p .x)) (inRange (p .y)) (g .point) in
+      (ready 0 (omega arith) (p .x) (on .0), (ready 1 (omega arith) (p .y) (on .1), tt))
     where
       ready : (a : ℕ) → a < axisCount → (at : _) → inRange at ≡ true → Ready (record { at = at; span = v .span j a })
       ready a k at e = record { point = e; span = entry-in-range v (g .keeps) j a h k f }

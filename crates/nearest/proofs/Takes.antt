@@ -1,9 +1,9 @@
 -- When the bay in a slot of a leaf goes into the list, and what the list is then. Assumes nothing.
-use Prim.Native.Nat.{ℕ, suc, _+_, _-_, _<_, _≤_}
+use Prim.Native.Nat.{ℕ, suc, _+_, _*_, _-_, _<_, _≤_}
 use native.Mathlib.Omega.{arith}
 use mathlib.Core.Path.{_≡_, refl, sym, ap, _∙_}
-use mathlib.Core.Logic.{_⊎_, inl, inr, ⊎-elim}
-use mathlib.Core.Bool.{Bool, true, false, _&&_, _||_, true≢false, false≢true}
+use mathlib.Core.Logic.{_⊎_, inl, inr}
+use mathlib.Core.Bool.{Bool, true, false, _&&_, _||_, true≢false}
 use mathlib.Core.List.{List}
 use lib.Dec.{ltb}
 use lib.ListN.{length, take, getD}
@@ -12,71 +12,90 @@ use Rattle.numbers.proofs.Tests.{both}
 use Rattle.floor.specs.View.{View, filled}
 use Rattle.order.specs.Order.{place}
 use Rattle.order.proofs.Place.{by-test}
-use Rattle.nearest.specs.declared.near_bay.NearBay.{NearBay}
 use Rattle.nearest.specs.declared.best.Best.{Best}
-use Rattle.nearest.specs.declared.query.Query.{Query}
-use Rattle.nearest.specs.Shown.{earlier, nearBay, noBay}
-use Rattle.nearest.specs.Below.{filledBay}
+use Rattle.nearest.specs.declared.question.Question.{Question}
+use Rattle.nearest.specs.Shown.{nearBay}
+use Rattle.nearest.specs.Below.{slotBays, partBays}
 use Rattle.nearest.specs.Asked.{wantedBy}
-use Rattle.nearest.specs.Best.{Carried}
+use Rattle.nearest.specs.Best.{keyOf, bayOf, sooner, Slots, Carried}
 use Rattle.nearest.specs.Searched.{Searched, takenOf}
-use Rattle.nearest.proofs.Offer.{with-room, when-full, left-out}
-use Rattle.nearest.proofs.Searching.{slot-empty, slot-unwanted, slot-wanted}
+use Rattle.nearest.proofs.Keys.{bay-back}
+use Rattle.nearest.proofs.Offer.{Offered, listing, with-room, when-full, left-out}
+use Rattle.nearest.proofs.Searching.{searched-none, searched-unwanted, searched-one}
 
-module _ (v : View) (distance : ℕ → ℕ) (q : Query) (j : ℕ) where
-  module _ (len : ℕ) (last : NearBay) where
-    pub takes-none : filled v j ≡ false → false ≡ takenOf v distance q j len last
-    takes-none f = rw f
+module _ (v : View) (distance : ℕ → ℕ) (q : Question) (j len last : ℕ) where
+  pub takes-none : filled v j ≡ false → false ≡ takenOf v distance q j len last
+  takes-none f = rw f
 
-    pub takes-unwanted : filled v j ≡ true → wantedBy q (nearBay v distance j) ≡ false → false ≡ takenOf v distance q j len last
-    takes-unwanted f w = rw (f, w)
+  pub takes-unwanted : filled v j ≡ true → wantedBy q (nearBay v distance j) ≡ false → false ≡ takenOf v distance q j len last
+  takes-unwanted f w = rw (f, w)
 
-    pub takes-room : filled v j ≡ true → wantedBy q (nearBay v distance j) ≡ true → len < q .k → true ≡ takenOf v distance q j len last
-    takes-room f w h = rw (f, w, lt-ltb len (q .k) h)
+  pub takes-room : filled v j ≡ true → wantedBy q (nearBay v distance j) ≡ true → len < q .k → true ≡ takenOf v distance q j len last
+  takes-room f w h = rw (f, w, lt-ltb len (q .k) h)
 
-    pub takes-before : {r : Bool} → filled v j ≡ true → wantedBy q (nearBay v distance j) ≡ true → q .k ≤ len → r ≡ earlier (nearBay v distance j) last
-        → r ≡ takenOf v distance q j len last
-    takes-before f w h e = rw (f, w, le-ltb len (q .k) h) e
+  pub takes-before : {r : Bool} → filled v j ≡ true → wantedBy q (nearBay v distance j) ≡ true → q .k ≤ len → r ≡ sooner v (keyOf distance j) last
+      → r ≡ takenOf v distance q j len last
+  takes-before f w h e = rw (f, w, le-ltb len (q .k) h) e
 
-  module _ (b : Best) (c : Carried (q .k) b) where
-    pub slot-left : takenOf v distance q j (b .len) (getD (b .recs) (q .k - 1) noBay) ≡ false → Searched q (filledBay v distance j) b b
-    slot-left t =
-        by-test (filled v j)
-        (λ f. by-test (wantedBy q (nearBay v distance j))
-        (λ w. by-test (ltb (b .len) (q .k))
-        (λ h. absurd (true≢false (takes-room (b .len) (getD (b .recs) (q .k - 1) noBay) f w (ltb-true (b .len) (q .k) h) ∙ t)))
-        (λ h. let full = ltb-false (b .len) (q .k) h in
-        slot-wanted q b v distance j (nearBay v distance j) b f refl w
-        (left-out (q .k) b (nearBay v distance j) c full (takes-before (b .len) (getD (b .recs) (q .k - 1) noBay) f w full refl ∙ t))))
-        (λ w. slot-unwanted q b v distance j (nearBay v distance j) f refl w c))
-        (λ f. slot-empty q b v distance j f c)
+-- slot i of a leaf
+module _ (v : View) (distance : ℕ → ℕ) (q : Question) (node i : ℕ) (low : 8 * node + i < 2048) (keys : List ℕ) (len : ℕ)
+    (c : Carried v (q .k) (listing (q .k) keys len)) where
+  abbrev j : ℕ
+  j = 8 * node + i
 
-    -- the list grew by one, or was full
-    pub slot-taken : (t : List NearBay) (up : ℕ) → takenOf v distance q j (b .len) (getD (b .recs) (q .k - 1) noBay) ≡ true → length t ≡ 100
-        → ((b .len < q .k) × (up ≡ b .len + 1)) ⊎ ((q .k ≤ b .len) × (up ≡ b .len))
-        → take (suc (up - 1)) t ≡ place earlier (nearBay v distance j) (take (up - 1) (b .recs))
-        → Searched q (filledBay v distance j) b (record { recs = t; len = up })
-    slot-taken t up h long w e = go w
-      where
-        new : NearBay
-        new = nearBay v distance j
+  abbrev b : Best
+  b = listing (q .k) keys len
 
-        is-last : Bool
-        is-last = earlier new (getD (b .recs) (q .k - 1) noBay)
+  abbrev last : ℕ
+  last = getD keys (q .k - 1) 0
 
-        parts : (filled v j ≡ true) × ((wantedBy q new && (ltb (b .len) (q .k) || is-last)) ≡ true)
-        parts = both (filled v j) (wantedBy q new && (ltb (b .len) (q .k) || is-last)) h
+  none-here : filled v j ≡ false → Searched v q (partBays v distance 0 node i) b b
+  none-here f = rw f (searched-none v q b c)
 
-        more : (wantedBy q new ≡ true) × ((ltb (b .len) (q .k) || is-last) ≡ true)
-        more = both (wantedBy q new) (ltb (b .len) (q .k) || is-last) (parts .1)
+  unwanted-here : filled v j ≡ true → wantedBy q (nearBay v distance j) ≡ false → Searched v q (partBays v distance 0 node i) b b
+  unfolding slotBays
+  unwanted-here f w = rw f (searched-unwanted v q b (nearBay v distance j) w c)
 
-        go : ((b .len < q .k) × (up ≡ b .len + 1)) ⊎ ((q .k ≤ b .len) × (up ≡ b .len)) → Searched q (filledBay v distance j) b (record { recs = t; len = up })
-        go (inl g) =
-            let n : up - 1 ≡ b .len = omega (arith, g .1) in
-            slot-wanted q b v distance j new (record { recs = t; len = up }) (parts .0) refl (more .0)
-            (rw (g .1) (with-room (q .k) b new c t (g .0) long (rw n at e)))
-        go (inr g) =
-            let fits : b .len ≤ q .k = c .fits in
-            let n : up ≡ q .k = omega (arith, g .0, g .1) in
-            slot-wanted q b v distance j new (record { recs = t; len = up }) (parts .0) refl (more .0)
-            (rw n (when-full (q .k) b new c t (g .0) long (rw (le-ltb (b .len) (q .k) (g .0)) at (more .1)) (rw n at e)))
+  wanted-here : (r : Best) → filled v j ≡ true → wantedBy q (nearBay v distance j) ≡ true → Offered v (q .k) b (keyOf distance j) r
+      → Searched v q (partBays v distance 0 node i) b r
+  unfolding slotBays
+  wanted-here r f w o =
+      let is = bay-back v distance j low in
+      rw f (rw is at (searched-one v q b (keyOf distance j) r (ap (wantedBy q) is ∙ w) o))
+
+  pub slot-left : takenOf v distance q j len last ≡ false → Searched v q (partBays v distance 0 node i) b b
+  slot-left t =
+      by-test (filled v j)
+      (λ f. by-test (wantedBy q (nearBay v distance j))
+      (λ w. by-test (ltb len (q .k))
+      (λ h. absurd (true≢false (takes-room v distance q j len last f w (ltb-true len (q .k) h) ∙ t)))
+      (λ h. let full = ltb-false len (q .k) h in
+      wanted-here b f w (left-out v (q .k) keys len (keyOf distance j) c full (takes-before v distance q j len last f w full refl ∙ t))))
+      (λ w. unwanted-here f w))
+      (λ f. none-here f)
+
+  -- the list grew by one, or was full
+  pub slot-taken : (t : List ℕ) (up : ℕ) → takenOf v distance q j len last ≡ true → length t ≡ 100 → Slots v t
+      → ((len < q .k) × (up ≡ len + 1)) ⊎ ((q .k ≤ len) × (up ≡ len))
+      → take (suc (up - 1)) t ≡ place (sooner v) (keyOf distance j) (take (up - 1) keys)
+      → Searched v q (partBays v distance 0 node i) b (listing (q .k) t up)
+  slot-taken t up h long slots w e = go w
+    where
+      new : ℕ
+      new = keyOf distance j
+
+      parts : (filled v j ≡ true) × ((wantedBy q (nearBay v distance j) && (ltb len (q .k) || sooner v new last)) ≡ true)
+      parts = both (filled v j) (wantedBy q (nearBay v distance j) && (ltb len (q .k) || sooner v new last)) h
+
+      more : (wantedBy q (nearBay v distance j) ≡ true) × ((ltb len (q .k) || sooner v new last) ≡ true)
+      more = both (wantedBy q (nearBay v distance j)) (ltb len (q .k) || sooner v new last) (parts .1)
+
+      go : ((len < q .k) × (up ≡ len + 1)) ⊎ ((q .k ≤ len) × (up ≡ len)) → Searched v q (partBays v distance 0 node i) b (listing (q .k) t up)
+      go (inl g) =
+          let n : up - 1 ≡ len = omega (arith, g .1) in
+          wanted-here (listing (q .k) t up) (parts .0) (more .0) (rw (g .1) (with-room v (q .k) keys len new c t (g .0) long slots (rw n at e)))
+      go (inr g) =
+          let fits : len ≤ q .k = c .fits in
+          let n : up ≡ q .k = omega (arith, g .0, g .1) in
+          wanted-here (listing (q .k) t up) (parts .0) (more .0)
+          (rw n (when-full v (q .k) keys len new c t (g .0) long slots (rw (le-ltb len (q .k) (g .0)) at (more .1)) (rw n at e)))

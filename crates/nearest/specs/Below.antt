@@ -20,7 +20,3 @@ module _ (v : View) (distance : ℕ → ℕ) where
 
   abbrev pub nodeBays : ℕ → ℕ → List NearBay
   nodeBays l n = gather (partBays l n) 8
-
-  -- a slot of a leaf, if it is filled
-  abbrev pub filledBay : ℕ → List NearBay
-  filledBay j = cond (filled v j) (nearBay v distance j ∷ []) []

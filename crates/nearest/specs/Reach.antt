@@ -4,7 +4,11 @@ use mathlib.Core.Bool.{cond}
 use mathlib.Core.List.{List}
 use Prim.Native.Nat.{ℕ, _+_, _*_, _<_}
 use lib.ListN.{length, getD}
+use Rattle.measure.specs.declared.SquaredMm.{SquaredMm}
 use Rattle.floor.specs.View.{View, filled}
+
+abbrev pub none : SquaredMm
+none = record { 0 = 0 }
 
 -- farther than any slot: what stands for one that is empty
 abbrev pub beyond : ℕ
@@ -14,6 +18,6 @@ unfoldable pub gapOf : View → (ℕ → ℕ) → ℕ → ℕ
 gapOf v distance j = cond (filled v j) (distance j) beyond
 
 -- ds has the distances of a node's slots
-pub record Reach (v : View) (distance : ℕ → ℕ) (node : ℕ) (ds : List ℕ) : Type 0 where
+pub record Reach (v : View) (distance : ℕ → ℕ) (node : ℕ) (ds : List SquaredMm) : Type 0 where
   pub long : length ds ≡ 8
-  pub is : (i : ℕ) → i < 8 → getD ds i 0 ≡ gapOf v distance (8 * node + i)
+  pub is : (i : ℕ) → i < 8 → getD ds i none .0 ≡ gapOf v distance (8 * node + i)

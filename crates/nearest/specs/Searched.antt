@@ -9,17 +9,17 @@ use Rattle.floor.specs.View.{View, filled}
 use Rattle.order.specs.Order.{keepAll, only}
 use Rattle.nearest.specs.declared.near_bay.NearBay.{NearBay}
 use Rattle.nearest.specs.declared.best.Best.{Best}
-use Rattle.nearest.specs.declared.query.Query.{Query}
+use Rattle.nearest.specs.declared.question.Question.{Question}
 use Rattle.nearest.specs.Shown.{earlier, nearBay}
 use Rattle.nearest.specs.Asked.{wantedBy}
-use Rattle.nearest.specs.Best.{listOf, Carried}
+use Rattle.nearest.specs.Best.{keyOf, sooner, listOf, Carried}
 
 -- the list b has become r by a search of es
-pub record Searched (q : Query) (es : List NearBay) (b r : Best) : Type 0 where
-  pub carried : Carried (q .k) r
-  pub is : listOf r ≡ keepAll earlier (q .k) (only (wantedBy q) es) (listOf b)
+pub record Searched (v : View) (q : Question) (es : List NearBay) (b r : Best) : Type 0 where
+  pub carried : Carried v (q .k) r
+  pub is : listOf v r ≡ keepAll earlier (q .k) (only (wantedBy q) es) (listOf v b)
 
 -- whether the bay in slot j goes into a list of len bays, of which the kth, if there is one, is last
-abbrev pub takenOf : View → (ℕ → ℕ) → Query → ℕ → ℕ → NearBay → Bool
+abbrev pub takenOf : View → (ℕ → ℕ) → Question → ℕ → ℕ → ℕ → Bool
 takenOf v distance q j len last =
-    filled v j && (wantedBy q (nearBay v distance j) && (ltb len (q .k) || earlier (nearBay v distance j) last))
+    filled v j && (wantedBy q (nearBay v distance j) && (ltb len (q .k) || sooner v (keyOf distance j) last))

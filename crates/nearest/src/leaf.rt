@@ -1,43 +1,63 @@
 // The bays of a leaf, offered to the best list one by one.
+ghost use mathlib.Core.Path.{_≡_};
 ghost use Prim.Native.Nat.{_*_, _<_};
 ghost use Rattle.floor.specs.View.{viewOf};
 ghost use Rattle.nearest.specs.Shown.{distanceTo};
-ghost use Rattle.nearest.specs.Below.{filledBay, nodeBays};
-ghost use Rattle.nearest.specs.Best.{Carried};
+ghost use Rattle.nearest.specs.Below.{nodeBays};
+ghost use Rattle.nearest.specs.Best.{slotIn, Carried};
 ghost use Rattle.nearest.specs.Ground.{Ground};
-ghost use Rattle.nearest.specs.Searched.{Searched};
+ghost use Rattle.nearest.specs.Searched.{Searched, takenOf};
 use crate::best::Best;
-use crate::best::offer;
-use crate::query::Query;
-use crate::query::wants;
+use crate::best::sink;
+use crate::best::worst_of;
+use crate::key::is_sooner;
+use crate::key::key_at;
+use crate::question::Question;
+use crate::question::wants;
 use crate::slots::near_bay_at;
 use floor::is_filled;
 
-// The best list after one slot of a leaf.
-pub fn offer_slot(map: &[u8], q: Query, j: usize, best: Best) -> Best
-    requires { ⌜ Ground (viewOf (now map)) (q .from) × (j < 8 * viewOf (now map) .count) × Carried (q .k) best ⌝ }
-    ensures { λ r. ⌜ Searched q (filledBay (viewOf (now (map .entry))) (distanceTo (viewOf (now (map .entry))) (q .from)) j) best r ⌝ }
+// Whether the bay in a slot goes into a list of len bays, of which the kth, if there is one, is last.
+fn takes(map: &[u8], q: Question, j: usize, len: usize, last: u64) -> bool
+    requires { ⌜ Ground (viewOf (now map)) (q .from) × (j < 8 * viewOf (now map) .count) × (slotIn last < 8 * viewOf (now map) .count) ⌝ }
+    ensures { λ r. ⌜ r ≡ takenOf (viewOf (now (map .entry))) (distanceTo (viewOf (now (map .entry))) (q .from)) q j len last ⌝ }
 {
     if is_filled(map, j) {
         let e = near_bay_at(map, q.from, j);
         if wants(q, e) {
-            return offer(best, q.k, e);
+            if len < q.k {
+                return true;
+            }
+            return is_sooner(map, key_at(map, q.from, j), last);
         }
-        return best;
+        return false;
     }
-    best
+    false
 }
 
 // The best list after all slots of a leaf.
-pub fn leaf(map: &[u8], q: Query, node: usize, best: Best) -> Best
-    requires { ⌜ Ground (viewOf (now map)) (q .from) × (node < viewOf (now map) .count) × Carried (q .k) best ⌝ }
-    ensures { λ r. ⌜ Searched q (nodeBays (viewOf (now (map .entry))) (distanceTo (viewOf (now (map .entry))) (q .from)) 0 node) best r ⌝ }
+pub fn leaf(map: &[u8], q: Question, node: usize, best: Best) -> Best
+    requires { ⌜ Ground (viewOf (now map)) (q .from) × (node < viewOf (now map) .count) × Carried (viewOf (now map)) (q .k) best ⌝ }
+    ensures { λ r. ⌜ Searched (viewOf (now (map .entry))) q (nodeBays (viewOf (now (map .entry))) (distanceTo (viewOf (now (map .entry))) (q .from)) 0 node) best r ⌝ }
 {
-    let mut b = best;
+    let k = q.k;
+    let mut keys = best.keys;
+    let mut len = best.len;
     let mut i: usize = 0;
     while i < 8 {
-        b = offer_slot(map, q, 8 * node + i, b);
+        let j = 8 * node + i;
+        if takes(map, q, j, len, keys[k - 1]) {
+            if len < k {
+                len += 1;
+            }
+            sink(map, &mut keys, len - 1, key_at(map, q.from, j));
+        }
         i += 1;
     }
-    b
+    let worst = worst_of(k, len, keys[k - 1]);
+    Best {
+        keys: keys,
+        len: len,
+        worst: worst,
+    }
 }

@@ -3,14 +3,17 @@
 // What reads a map has a `requires`: the reply has checked the map and the question, once, before it searches.
 mod badge;
 mod best;
+mod key;
 mod leaf;
 mod near_bay;
-mod query;
+mod question;
 mod reach;
 mod slots;
 
 pub use badge::Badge;
+pub use best::Best;
+pub use key::bay_of;
 pub use near_bay::NearBay;
 pub use near_bay::is_before;
-pub use query::Mark;
-pub use query::Query;
+pub use question::Mark;
+pub use question::Question;

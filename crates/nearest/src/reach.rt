@@ -5,31 +5,32 @@ ghost use lib.ListN.{getD};
 ghost use Rattle.floor.specs.View.{viewOf};
 ghost use Rattle.nearest.specs.Shown.{distanceTo};
 ghost use Rattle.nearest.specs.Ground.{Ground};
-ghost use Rattle.nearest.specs.Reach.{gapOf, Reach};
+ghost use Rattle.nearest.specs.Reach.{none, gapOf, Reach};
 use crate::slots::gap_to;
 use floor::is_filled;
 use measure::Point;
+use measure::SquaredMm;
 
-// Farther than any slot.
+// Farther than any slot: the squared distance of no box.
 pub const BEYOND: u64 = 18446744073709551615;
 
 // How far a slot is, if it is filled.
-pub fn gap(map: &[u8], p: Point, j: usize) -> u64
+pub fn gap(map: &[u8], p: Point, j: usize) -> SquaredMm
     requires { ⌜ Ground (viewOf (now map)) p × (j < 8 * viewOf (now map) .count) ⌝ }
-    ensures { λ r. ⌜ r ≡ gapOf (viewOf (now (map .entry))) (distanceTo (viewOf (now (map .entry))) p) j ⌝ }
+    ensures { λ r. ⌜ r .0 ≡ gapOf (viewOf (now (map .entry))) (distanceTo (viewOf (now (map .entry))) p) j ⌝ }
 {
     if is_filled(map, j) {
-        return gap_to(map, p, j).0;
+        return gap_to(map, p, j);
     }
-    BEYOND
+    SquaredMm(BEYOND)
 }
 
 // How far each slot of a node is.
-pub fn gaps(map: &[u8], p: Point, node: usize) -> [u64; 8]
+pub fn gaps(map: &[u8], p: Point, node: usize) -> [SquaredMm; 8]
     requires { ⌜ Ground (viewOf (now map)) p × (node < viewOf (now map) .count) ⌝ }
     ensures { λ r. ⌜ Reach (viewOf (now (map .entry))) (distanceTo (viewOf (now (map .entry))) p) node r ⌝ }
 {
-    let mut ds = [0; 8];
+    let mut ds = [SquaredMm(0); 8];
     let mut i: usize = 0;
     while i < 8 {
         ds[i] = gap(map, p, 8 * node + i);
@@ -39,13 +40,13 @@ pub fn gaps(map: &[u8], p: Point, node: usize) -> [u64; 8]
 }
 
 // The slot that is nearest.
-pub fn least(ds: [u64; 8]) -> usize
-    ensures { λ r. ⌜ (r < 8) × ((i : ℕ) → i < 8 → getD ds r 0 ≤ getD ds i 0) ⌝ }
+pub fn least(ds: [SquaredMm; 8]) -> usize
+    ensures { λ r. ⌜ (r < 8) × ((i : ℕ) → i < 8 → getD ds r none .0 ≤ getD ds i none .0) ⌝ }
 {
     let mut at: usize = 0;
     let mut i: usize = 1;
     while i < 8 {
-        if ds[i] < ds[at] {
+        if ds[i].0 < ds[at].0 {
             at = i;
         }
         i += 1;

@@ -7,3 +7,4 @@ pub mod Squares
 pub mod Shifted
 pub mod Below
 pub mod Exactly
+pub mod Arrays

@@ -9,3 +9,4 @@ pub mod After
 pub mod Swap
 pub mod Visits
 pub mod Hole
+pub mod Mapped

@@ -5,7 +5,7 @@ use native.Mathlib.Numerals.{add-one}
 use native.Mathlib.Omega.{arith}
 use mathlib.Core.Path.{_≡_, refl, sym, ap, _∙_}
 use mathlib.Core.Logic.{⊎-elim}
-use mathlib.Core.Bool.{Bool, true, false, true≢false}
+use mathlib.Core.Bool.{Bool, true, false, _&&_, true≢false}
 use mathlib.Core.List.{List, [], _∷_, _++_, List·Memᴰ, List·Memᴰ·head, List·Memᴰ·tail, List·Memᴰ·not-nil, List·Memᴰ·cases-cons, List·Memᴰ·append-cases}
 use Rattle.order.specs.Order.{only, gather}
 use Rattle.order.proofs.Place.{by-test}
@@ -51,6 +51,15 @@ module _ {A : Type 0} (p : A → Bool) where
   only-append [] ys = rw only-nil
   only-append (x ∷ xs) ys =
       by-test (p x) (λ e. simp (only-yes, only-append xs ys)) (λ e. simp (only-no, only-append xs ys))
+
+-- one test after another is both at once
+pub only-both : {A : Type 0} (p r : A → Bool) (l : List A) → only r (only p l) ≡ only (λ x. p x && r x) l
+unfolding only
+only-both p r [] = refl
+only-both p r (x ∷ xs) =
+    by-test (p x)
+    (λ e. rw e (by-test (r x) (λ g. rw g (ap (_∷_ x) (only-both p r xs))) (λ g. rw g (only-both p r xs))))
+    (λ e. rw e (only-both p r xs))
 
 module _ {A : Type 0} where
   pub gather-more : (f : ℕ → List A) (n : ℕ) → gather f (n + 1) ≡ gather f n ++ f n

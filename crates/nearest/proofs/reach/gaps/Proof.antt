@@ -6,17 +6,18 @@ use mathlib.Core.Path.{_≡_}
 use lib.ListN.{length, getD, length-set}
 use denote.Ref.{now}
 use borrow.Author.Needs.{needs}
+use Rattle.measure.specs.declared.SquaredMm.{SquaredMm}
 use Rattle.floor.specs.View.{viewOf}
 use Rattle.nearest.specs.Shown.{distanceTo}
-use Rattle.nearest.specs.Reach.{gapOf}
+use Rattle.nearest.specs.Reach.{none, gapOf}
 use Rattle.nearest.proofs.Ready.{ground-shaped}
-use Rattle.nearest.proofs.Arrays.{filled-next}
+use Rattle.numbers.proofs.Arrays.{filled-next}
 use Rattle.nearest.proofs.reach.gaps.Statement.{statement}
 use Rattle.nearest.proofs.reach.gaps.Tie as tie
 
 abbrev Inv-loop : tie.InvT-loop
 Inv-loop map p node ds₀ i₀ ds i =
-    (i ≤ 8) × (length ds ≡ 8) × (8 * node + 8 ≤ 2048) × ((j : ℕ) → j < i → getD ds j 0 ≡ gapOf (viewOf map) (distanceTo (viewOf map) p) (8 * node + j))
+    (i ≤ 8) × (length ds ≡ 8) × (8 * node + 8 ≤ 2048) × ((j : ℕ) → j < i → getD ds j none .0 ≡ gapOf (viewOf map) (distanceTo (viewOf map) p) (8 * node + j))
 
 abbrev μ-loop : tie.MeasureT-loop
 μ-loop map p node ds₀ i₀ ds i = 8 - i
@@ -44,8 +45,8 @@ gap-requires c κs =
 mul-ds : tie.Need-mul-ds Inv-loop μ-loop
 mul-ds c = omega arith
 
-array-write-ds : tie.Need-array-write-ds Inv-loop μ-loop
-array-write-ds c = omega arith
+array-set-from-ds : tie.Need-array-set-from-ds Inv-loop μ-loop
+array-set-from-ds c = omega arith
 
 add-i : tie.Need-add-i Inv-loop μ-loop
 add-i c = omega arith
@@ -61,7 +62,7 @@ loop-again c =
       omega arith,
       simp length-set (l .loop .inv .1),
       l .loop .inv .2,
-      filled-next (λ j. gapOf v (distanceTo v (s .args .p)) (8 * s .args .node + j)) (l .loop .ds) (l .loop .i) (c .gap .result) (omega arith) (l .loop .inv .3) (c .gap .ensures),
+      filled-next (λ (s : SquaredMm). s .0) none (λ j. gapOf v (distanceTo v (s .args .p)) (8 * s .args .node + j)) (l .loop .ds) (l .loop .i) (c .gap .result) (omega arith) (l .loop .inv .3) (c .gap .ensures),
     )
 
 returns : tie.Need-returns Inv-loop μ-loop
@@ -73,4 +74,4 @@ returns c =
 pub gaps-spec : {M : Type 1} → statement M
 gaps-spec =
     tie.close
-    (tie.spec Inv-loop μ-loop loop-holds mul-gap add-gap gap-requires mul-ds array-write-ds add-i loop-less loop-again returns)
+    (tie.spec Inv-loop μ-loop loop-holds mul-gap add-gap gap-requires mul-ds array-set-from-ds add-i loop-less loop-again returns)

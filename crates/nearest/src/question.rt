@@ -13,7 +13,7 @@ pub struct Mark {
     pub bay: u32,
 }
 
-pub struct Query {
+pub struct Question {
     pub from: Point,
     pub k: usize,
     pub badge: Badge,
@@ -21,7 +21,7 @@ pub struct Query {
 }
 
 // Whether a bay is on the badge and comes strictly after the mark.
-pub fn wants(q: Query, e: NearBay) -> bool
+pub fn wants(q: Question, e: NearBay) -> bool
     ensures { λ r. ⌜ r ≡ wantedBy q e ⌝ }
 {
     if q.badge.contains(e.zone) {

@@ -1,18 +1,10 @@
--- `nearest::query::wants` meets its contract. Assumes nothing.
-use mathlib.Core.Path.{_≡_, refl, sym, _∙_}
-use mathlib.Core.Bool.{Bool, true, false, _&&_, true≢false, false≢true}
+-- `nearest::question::wants` meets its contract. Assumes nothing.
+use mathlib.Core.Path.{sym, _∙_}
 use borrow.Author.Needs.{needs}
+use Rattle.numbers.proofs.Tests.{passed, shut}
 use Rattle.nearest.specs.Shown.{shown, afterMark}
-use Rattle.nearest.proofs.query.wants.Statement.{statement}
-use Rattle.nearest.proofs.query.wants.Tie as tie
-
-passed : (a b : Bool) {r : Bool} → a ≡ true → r ≡ b → r ≡ (a && b)
-passed true b e h = h
-passed false b e h = absurd (false≢true e)
-
-shut : (a b : Bool) → a ≡ false → false ≡ (a && b)
-shut true b e = absurd (true≢false e)
-shut false b e = refl
+use Rattle.nearest.proofs.question.wants.Statement.{statement}
+use Rattle.nearest.proofs.question.wants.Tie as tie
 
 contains-requires : tie.Need-contains-requires
 contains-requires c κs = search needs
