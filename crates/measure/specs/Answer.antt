@@ -1,5 +1,5 @@
 -- What a measure answers: document 01's number and value, and which axes a point and a box have.
-use mathlib.Core.Bool.{Bool, cond}
+use mathlib.Core.Bool.{Bool, cond, _&&_}
 use mathlib.Core.List.{List, [], _∷_}
 use Prim.Native.Nat.{ℕ}
 use Rattle.measure.specs.declared.Axis.{Axis}
@@ -9,7 +9,7 @@ use Rattle.measure.specs.declared.Measured.{Measured}
 use Rattle.measure.specs.declared.Measured.the-variants.{Found, PointOutside, BoxOutside}
 use Rattle.measure.specs.declared.all_axes.Kind.{Kind}
 use Rattle.measure.specs.declared.all_axes.Kind.the-variants.{Min, MinMax}
-use Rattle.measure.specs.Axis.{pointIn, boxIn}
+use Rattle.measure.specs.Axis.{inRange, pointIn, boxIn}
 use Rattle.measure.specs.Axes.{every, minDist, minMaxDist}
 
 -- the axes of a point and a box
@@ -21,6 +21,10 @@ onY p b = record { at = p .y; span = b .y }
 
 abbrev pub axesOf : Point → Bounds → List Axis
 axesOf p b = onX p b ∷ onY p b ∷ []
+
+-- every coordinate of the point is in range
+abbrev pub pointOk : Point → Bool
+pointOk p = inRange (p .x) && inRange (p .y)
 
 -- document 01's answer: a number, and a value that is 0 where the number is not
 pub record Reply : Type 0 where

@@ -3,7 +3,9 @@
 ghost use mathlib.Core.Path.{_≡_};
 ghost use mathlib.Core.Bool.{cond, true};
 ghost use Rattle.measure.specs.Axis.{squareOf, inRange, pointIn, spanIn, boxIn, nearestOn, minSq, nearSq, farSq, Ready};
+ghost use Rattle.measure.specs.Answer.{pointOk};
 use crate::Axis;
+use crate::Point;
 use crate::Span;
 use crate::SquaredMm;
 
@@ -24,6 +26,14 @@ fn either(first: bool, a: SquaredMm, b: SquaredMm) -> SquaredMm
     ensures { λ r. ⌜ r ≡ cond first a b ⌝ }
 {
     if first { a } else { b }
+}
+
+impl Point {
+    pub fn in_range(self) -> bool
+        ensures { λ r. ⌜ r ≡ pointOk self ⌝ }
+    {
+        in_range(self.x) & in_range(self.y)
+    }
 }
 
 impl Span {
