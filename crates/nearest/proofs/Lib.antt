@@ -8,3 +8,5 @@ pub mod Keys
 pub mod Offer
 pub mod Searching
 pub mod Takes
+pub mod Visits
+pub mod Start

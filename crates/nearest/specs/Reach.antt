@@ -1,8 +1,9 @@
 -- How far each slot of a node is: what a search looks at before it goes down.
 use mathlib.Core.Path.{_≡_}
-use mathlib.Core.Bool.{cond}
+use mathlib.Core.Bool.{Bool, cond, _&&_}
 use mathlib.Core.List.{List}
 use Prim.Native.Nat.{ℕ, _+_, _*_, _<_}
+use lib.Dec.{leb, ltb}
 use lib.ListN.{length, getD}
 use Rattle.measure.specs.declared.SquaredMm.{SquaredMm}
 use Rattle.floor.specs.View.{View, filled}
@@ -21,3 +22,7 @@ gapOf v distance j = cond (filled v j) (distance j) beyond
 pub record Reach (v : View) (distance : ℕ → ℕ) (node : ℕ) (ds : List SquaredMm) : Type 0 where
   pub long : length ds ≡ 8
   pub is : (i : ℕ) → i < 8 → getD ds i none .0 ≡ gapOf v distance (8 * node + i)
+
+-- whether a slot at the distance d is gone into: it is there, and not strictly farther than the kth bay
+abbrev pub opened : ℕ → ℕ → Bool
+opened d worst = ltb d beyond && leb d worst

@@ -10,7 +10,7 @@ use Rattle.order.specs.Order.{keepAll, only}
 use Rattle.nearest.specs.declared.near_bay.NearBay.{NearBay}
 use Rattle.nearest.specs.declared.best.Best.{Best}
 use Rattle.nearest.specs.declared.question.Question.{Question}
-use Rattle.nearest.specs.Shown.{earlier, nearBay}
+use Rattle.nearest.specs.Shown.{earlier, nearBay, distanceTo, page}
 use Rattle.nearest.specs.Asked.{wantedBy}
 use Rattle.nearest.specs.Best.{keyOf, sooner, listOf, Carried}
 
@@ -18,6 +18,11 @@ use Rattle.nearest.specs.Best.{keyOf, sooner, listOf, Carried}
 pub record Searched (v : View) (q : Question) (es : List NearBay) (b r : Best) : Type 0 where
   pub carried : Carried v (q .k) r
   pub is : listOf v r ≡ keepAll earlier (q .k) (only (wantedBy q) es) (listOf v b)
+
+-- the list r is the page that the question asks for
+pub record Found (v : View) (q : Question) (r : Best) : Type 0 where
+  pub carried : Carried v (q .k) r
+  pub is : listOf v r ≡ page v (distanceTo v (q .from)) (q .badge .0) (q .mark .dsq .0) (q .mark .bay) (q .k)
 
 -- whether the bay in slot j goes into a list of len bays, of which the kth, if there is one, is last
 abbrev pub takenOf : View → (ℕ → ℕ) → Question → ℕ → ℕ → ℕ → Bool

@@ -41,7 +41,9 @@ pub fn is_sooner(map: &[u8], a: u64, b: u64) -> bool
     let dsq = dsq_in(a);
     let other = dsq_in(b);
     if dsq.0 == other.0 {
-        return ref_of(map, slot_in(a)) < ref_of(map, slot_in(b));
+        let bay = ref_of(map, slot_in(a));
+        let rival = ref_of(map, slot_in(b));
+        return bay < rival;
     }
     dsq.0 < other.0
 }

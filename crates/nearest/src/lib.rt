@@ -8,6 +8,7 @@ mod leaf;
 mod near_bay;
 mod question;
 mod reach;
+mod search;
 mod slots;
 
 pub use badge::Badge;
@@ -17,3 +18,4 @@ pub use near_bay::NearBay;
 pub use near_bay::is_before;
 pub use question::Mark;
 pub use question::Question;
+pub use search::nearest;

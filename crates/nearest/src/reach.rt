@@ -5,7 +5,7 @@ ghost use lib.ListN.{getD};
 ghost use Rattle.floor.specs.View.{viewOf};
 ghost use Rattle.nearest.specs.Shown.{distanceTo};
 ghost use Rattle.nearest.specs.Ground.{Ground};
-ghost use Rattle.nearest.specs.Reach.{none, gapOf, Reach};
+ghost use Rattle.nearest.specs.Reach.{none, gapOf, Reach, opened};
 use crate::slots::gap_to;
 use floor::is_filled;
 use measure::Point;
@@ -52,4 +52,12 @@ pub fn least(ds: [SquaredMm; 8]) -> usize
         i += 1;
     }
     at
+}
+
+// Whether to go into a slot at the distance d, with the kth bay at the distance worst: a slot as far as the kth may hold
+// a bay that is as near, with a smaller number.
+pub fn opens(d: SquaredMm, worst: SquaredMm) -> bool
+    ensures { λ r. ⌜ r ≡ opened (d .0) (worst .0) ⌝ }
+{
+    (d.0 < BEYOND) & (d.0 <= worst.0)
 }

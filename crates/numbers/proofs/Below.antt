@@ -162,3 +162,24 @@ module _ (p : ℕ → Bool) where
 
   pub first-all : (n : ℕ) → ((k : ℕ) → k < n → p k ≡ true) → firstFail p n ≡ n
   first-all n h = sym (first-end n n refl h)
+
+-- ---- one test that passed, and now fails: a loop's measure
+
+module _ (t u : ℕ → Bool) where
+  count-agree : (n : ℕ) → ((i : ℕ) → i < n → u i ≡ t i) → countBelow u n ≡ countBelow t n
+  count-agree zero c = refl
+  count-agree (suc n) c = rw (c n (omega arith), count-agree n (λ i p. c i (omega arith)))
+
+  pub count-less : (n j : ℕ) → j < n → t j ≡ true → u j ≡ false → ((i : ℕ) → i < n → (i ≡ j → ⊥) → u i ≡ t i) → countBelow u n < countBelow t n
+  count-less zero j g a b c = absurd (omega arith)
+  count-less (suc n) j g a b c =
+      ⊎-elim (λ p. past p (count-less n j p a b (λ i q r. c i (omega arith) r))) (⊎-elim here (λ p. absurd (omega arith))) (ordered j n)
+    where
+      here : j ≡ n → countBelow u n + one (u n) < countBelow t n + one (t n)
+      here e =
+          let tn : t n ≡ true = ap t (sym e) ∙ a in
+          let un : u n ≡ false = ap u (sym e) ∙ b in
+          rw (tn, un, count-agree n (λ i p. c i (omega arith) (λ q. omega arith))) (omega arith)
+
+      past : j < n → countBelow u n < countBelow t n → countBelow u n + one (u n) < countBelow t n + one (t n)
+      past p ih = rw (c n (omega arith) (λ q. omega arith)) (omega arith)

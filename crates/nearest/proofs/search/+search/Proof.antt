@@ -1,0 +1,243 @@
+-- `nearest::search::search` meets its contract, by induction on the level: the slots that stand open in `ds` are still to
+-- be visited, and all others are searched. Assumes nothing.
+use Prim.Native.Nat.{ℕ, suc, _+_, _*_, _-_, _/_, _<_, _≤_}
+use native.Mathlib.Omega.{arith}
+use mathlib.Core.Path.{_≡_, sym, ap, _∙_}
+use mathlib.Core.Logic.{⊎-elim}
+use mathlib.Core.Bool.{Bool, true, false}
+use mathlib.Core.List.{List}
+use lib.Dec.{leb, ltb}
+use lib.ListN.{length, getD, set, length-set}
+use denote.Ref.{now}
+use borrow.Author.Needs.{needs}
+use borrow.Author.Tests.{ltb-true}
+use borrow.Fn.Kinds.{In}
+use borrow.Fn.PlainCycle.{Measures, is, falls, and}
+use Rattle.numbers.specs.Below.{countBelow}
+use Rattle.numbers.proofs.Tests.{both}
+use Rattle.measure.specs.declared.SquaredMm.{SquaredMm}
+use Rattle.floor.specs.View.{View, viewOf}
+use Rattle.order.specs.Order.{gather}
+use Rattle.order.proofs.Visits.{taken}
+use Rattle.nearest.specs.declared.best.Best.{Best}
+use Rattle.nearest.specs.declared.question.Question.{Question}
+use Rattle.nearest.specs.Shown.{distanceTo}
+use Rattle.nearest.specs.Below.{partBays}
+use Rattle.nearest.specs.Reach.{none, beyond, opened}
+use Rattle.nearest.specs.Searched.{Searched}
+use Rattle.nearest.proofs.Ready.{ground-shaped}
+use Rattle.nearest.proofs.Keys.{gap-small}
+use Rattle.nearest.proofs.Page.{mindist-grows}
+use Rattle.nearest.proofs.Visits.{openAt, fewer, Marks, marks-start, marks-next, child-there, child-level, part-down, parts-none, parts-one, parts-stop}
+use Rattle.nearest.proofs.search.search.Reads as search′
+use Rattle.nearest.proofs.search.search.Kinds as search-kinds
+use Rattle.nearest.proofs.search.+search.Lts-search as search-lts
+use Rattle.floor.proofs.ref_of.Reads as ref-of-reads
+use Rattle.nearest.proofs.leaf.leaf.Reads as leaf-reads
+use Rattle.nearest.proofs.reach.gaps.Reads as gaps-reads
+use Rattle.nearest.proofs.reach.least.Reads as least-reads
+use Rattle.nearest.proofs.reach.opens.Reads as opens-reads
+use Rattle.nearest.proofs.search.+search.{statement}
+use Rattle.nearest.proofs.search.+search.Tie.{close}
+
+abbrev μ-search : Measures 1 search-kinds.ps ℕ
+μ-search κs a = a .1 .1 .1 .0
+
+abbrev search-at : ℕ → In 1 search-kinds.ps
+search-at t = and 1 search-kinds.ps (is 1 search-kinds.ps μ-search t) search′.Pre
+
+abbrev search-below : ℕ → In 1 search-kinds.ps
+search-below t = and 1 search-kinds.ps (falls 1 search-kinds.ps _<_ μ-search t) search′.Pre
+
+-- what is handed to each need: the callees' contracts, and this function's own at a smaller level
+abbrev claims : ℕ → search-lts.Claims
+claims t = (
+  gaps-reads.Asked,
+  gaps-reads.Learnt,
+  least-reads.Asked,
+  least-reads.Learnt,
+  opens-reads.Asked,
+  opens-reads.Learnt,
+  ref-of-reads.Asked,
+  ref-of-reads.Learnt,
+  leaf-reads.Asked,
+  leaf-reads.Learnt,
+  search-below t,
+  search′.Post,
+)
+
+-- a slot that is gone into is open
+opened-there : (d worst : ℕ) {r : Bool} → r ≡ opened d worst → r ≡ true → ltb d beyond ≡ true
+opened-there d worst e t = both (ltb d beyond) (leb d worst) (sym e ∙ t) .0
+
+-- the slots that are shut in ds are searched
+abbrev Done : View → Question → ℕ → ℕ → List SquaredMm → Best → Best → Type 0
+Done v q node level ds b₀ b = Searched v q (gather (taken (openAt ds) (partBays v (distanceTo v (q .from)) level node)) 8) b₀ b
+
+abbrev Inv-loop : search-lts.InvT-loop
+Inv-loop map q node level b₀ ds₀ j₀ b ds j =
+    (length ds ≡ 8) × (j < 8) × (8 * node + 8 ≤ 2048) × ((i : ℕ) → i < 8 → getD ds j none .0 ≤ getD ds i none .0)
+    × Marks (viewOf map) (distanceTo (viewOf map) (q .from)) node ds × Done (viewOf map) q node level ds b₀ b
+
+abbrev μ-loop : search-lts.MeasureT-loop
+μ-loop map q node level b₀ ds₀ j₀ b ds j = countBelow (openAt ds) 8
+
+gaps-requires : (t : ℕ) → search-lts.Need-gaps-requires (claims t) (search-at t) search′.Post Inv-loop μ-loop
+gaps-requires t c κs = let s = c .before in (s .pre .1 .0, s .pre .1 .1)
+
+least-requires : (t : ℕ) → search-lts.Need-least-requires (claims t) (search-at t) search′.Post Inv-loop μ-loop
+least-requires t c κs = search needs
+
+loop-holds : (t : ℕ) → search-lts.Need-loop-holds (claims t) (search-at t) search′.Post Inv-loop μ-loop
+loop-holds t c =
+    let s = c .before .before .before in
+    let q = s .args .q in
+    let v = viewOf (now (s .args .map)) in
+    let d = distanceTo v (q .from) in
+    let ground = s .pre .1 .0 in
+    let low : s .args .node < v .count = s .pre .1 .1 in
+    let few : v .count ≤ 256 = ground-shaped v (q .from) ground .few in
+    let g = c .before .gaps .ensures in (
+      g .long,
+      c .least .ensures .0,
+      omega arith,
+      c .least .ensures .1,
+      marks-start v d (s .args .node) (c .before .gaps .result) g,
+      parts-none v (ground .keeps) d q (s .args .level) (s .args .node) low (s .pre .1 .2) (λ i h f. omega (arith, gap-small v (q .from) ground i h f)) (c .before .gaps .result) (s .args .best) g (s .pre .1 .4),
+    )
+
+mul-opens : (t : ℕ) → search-lts.Need-mul-opens (claims t) (search-at t) search′.Post Inv-loop μ-loop
+mul-opens t c = omega arith
+
+array-copy-out-opens : (t : ℕ) → search-lts.Need-array-copy-out-opens (claims t) (search-at t) search′.Post Inv-loop μ-loop
+array-copy-out-opens t c = omega arith
+
+opens-requires : (t : ℕ) → search-lts.Need-opens-requires (claims t) (search-at t) search′.Post Inv-loop μ-loop
+opens-requires t c κs = search needs
+
+mul-ref-of : (t : ℕ) → search-lts.Need-mul-ref-of (claims t) (search-at t) search′.Post Inv-loop μ-loop
+mul-ref-of t c = omega arith
+
+add-ref-of : (t : ℕ) → search-lts.Need-add-ref-of (claims t) (search-at t) search′.Post Inv-loop μ-loop
+add-ref-of t c = omega arith
+
+ref-of-requires : (t : ℕ) → search-lts.Need-ref-of-requires (claims t) (search-at t) search′.Post Inv-loop μ-loop
+ref-of-requires t c κs =
+    let s = c .before .before .before .before .before .before .before in
+    let v = viewOf (now (s .args .map)) in
+    let low : s .args .node < v .count = s .pre .1 .1 in
+    let j : c .before .before .before .loop .j < 8 = c .before .before .before .loop .inv .1 in
+    (ground-shaped v (s .args .q .from) (s .pre .1 .0), omega arith)
+
+cast-child : (t : ℕ) → search-lts.Need-cast-child (claims t) (search-at t) search′.Post Inv-loop μ-loop
+cast-child t c = search needs
+
+leaf-requires : (t : ℕ) → search-lts.Need-leaf-requires (claims t) (search-at t) search′.Post Inv-loop μ-loop
+leaf-requires t c κs =
+    let th = c .before .before in
+    let l = th .before .before .before .loop in
+    let s = th .before .before .before .before .before .before .before in
+    let v = viewOf (now (s .args .map)) in
+    let f = l .inv .4 (l .j) (l .inv .1) (opened-there (getD (l .ds) (l .j) none .0) (l .b .worst .0) (th .before .opens .ensures) (th .if1 .taken)) .0 in
+    let there = child-there v (s .pre .1 .0 .keeps) (distanceTo v (s .args .q .from)) (s .args .level) (s .args .node) (l .j) (s .pre .1 .1) (s .pre .1 .2) (s .pre .1 .3) (l .inv .1) f in
+    (s .pre .1 .0, rw (c .before .ref-of .ensures) there, l .inv .5 .carried)
+
+sub-search : (t : ℕ) → search-lts.Need-sub-search (claims t) (search-at t) search′.Post Inv-loop μ-loop
+sub-search t c = omega arith
+
+search-requires : (t : ℕ) → search-lts.Need-search-requires (claims t) (search-at t) search′.Post Inv-loop μ-loop
+search-requires t c κs =
+    let th = c .before .before in
+    let l = th .before .before .before .loop in
+    let s = th .before .before .before .before .before .before .before in
+    let v = viewOf (now (s .args .map)) in
+    let keeps = s .pre .1 .0 .keeps in
+    let d = distanceTo v (s .args .q .from) in
+    let up : 0 < s .args .level = s .pre .1 .3 in
+    let mea : s .args .level ≡ t = s .pre .0 in
+    let ne : s .args .level ≡ 1 → ⊥ = c .if2 .left in
+    let f = l .inv .4 (l .j) (l .inv .1) (opened-there (getD (l .ds) (l .j) none .0) (l .b .worst .0) (th .before .opens .ensures) (th .if1 .taken)) .0 in
+    let there = child-there v keeps d (s .args .level) (s .args .node) (l .j) (s .pre .1 .1) (s .pre .1 .2) up (l .inv .1) f in
+    let falls = child-level v keeps d (s .args .level) (s .args .node) (l .j) (s .pre .1 .1) (s .pre .1 .2) up (l .inv .1) f in
+    (omega arith, (s .pre .1 .0, rw (c .before .ref-of .ensures) there, rw (c .before .ref-of .ensures) falls, omega arith, l .inv .5 .carried))
+
+mul-ds : (t : ℕ) → search-lts.Need-mul-ds (claims t) (search-at t) search′.Post Inv-loop μ-loop
+mul-ds t c = omega arith
+
+array-set-from-ds : (t : ℕ) → search-lts.Need-array-set-from-ds (claims t) (search-at t) search′.Post Inv-loop μ-loop
+array-set-from-ds t c = omega arith
+
+least-requires-2 : (t : ℕ) → search-lts.Need-least-requires-2 (claims t) (search-at t) search′.Post Inv-loop μ-loop
+least-requires-2 t c κs = search needs
+
+loop-less : (t : ℕ) → search-lts.Need-loop-less (claims t) (search-at t) search′.Post Inv-loop μ-loop
+loop-less t c =
+    let th = c .before .before .before in
+    let l = th .before .before .before .loop in
+    fewer (l .ds) (l .inv .0) (l .j) (l .inv .1)
+    (ltb-true (getD (l .ds) (l .j) none .0) beyond (opened-there (getD (l .ds) (l .j) none .0) (l .b .worst .0) (th .before .opens .ensures) (th .if1 .taken)))
+
+loop-again : (t : ℕ) → search-lts.Need-loop-again (claims t) (search-at t) search′.Post Inv-loop μ-loop
+loop-again t c =
+    let th = c .before .before .before in
+    let l = th .before .before .before .loop in
+    let s = th .before .before .before .before .before .before .before in
+    let q = s .args .q in
+    let v = viewOf (now (s .args .map)) in
+    let keeps = s .pre .1 .0 .keeps in
+    let d = distanceTo v (q .from) in
+    let level = s .args .level in
+    let node = s .args .node in
+    let j = l .j in
+    let goes = opened-there (getD (l .ds) j none .0) (l .b .worst .0) (th .before .opens .ensures) (th .if1 .taken) in
+    let f = l .inv .4 j (l .inv .1) goes .0 in
+    let down = part-down v keeps d level node j (s .pre .1 .1) (s .pre .1 .2) (s .pre .1 .3) (l .inv .1) f in
+    let child : c .before .before .ref-of .result ≡ v .ref (8 * node + j) = c .before .before .ref-of .ensures in
+    let step : Searched v q (partBays v d level node j) (l .b) (c .before .if2 .b) =
+    ⊎-elim
+    (λ w. let one : level - 1 ≡ 0 = omega (arith, w .0 .taken) in rw (w .2, down, ← child, one) (w .1 .ensures))
+    (λ w. rw (w .2, down, ← child) (w .1 .ensures))
+    (c .before .if2 .came) in (
+      simp length-set (l .inv .0),
+      c .least2 .ensures .0,
+      l .inv .2,
+      c .least2 .ensures .1,
+      marks-next v d node (l .ds) j (l .inv .0) (l .inv .1) (l .inv .4),
+      parts-one v keeps d q level node (s .pre .1 .1) (s .pre .1 .2) (l .ds) j (s .args .best) (l .b) (c .before .if2 .b) (l .inv .0) (l .inv .1) goes (l .inv .5) step,
+    )
+
+returns : (t : ℕ) → search-lts.Need-returns (claims t) (search-at t) search′.Post Inv-loop μ-loop
+returns t c =
+    let l = c .before .before .before .loop in
+    let s = c .before .before .before .before .before .before .before in
+    let q = s .args .q in
+    let v = viewOf (now (s .args .map)) in
+    let keeps = s .pre .1 .0 .keeps in
+    parts-stop v keeps (distanceTo v (q .from)) q (s .args .level) (s .args .node) (s .pre .1 .1) (s .pre .1 .2) (mindist-grows v keeps (q .from)) (l .ds) (l .j) (s .args .best) (l .b) (l .inv .4) (l .inv .3)
+    (sym (c .before .opens .ensures) ∙ c .if1 .left) (l .inv .5)
+
+pub +search-spec : {M : Type 1} → statement M
++search-spec = close μ-search λ t. search-lts.spec (claims t)
+    (search-at t)
+    search′.Post
+    Inv-loop
+    μ-loop
+    (gaps-requires t)
+    (least-requires t)
+    (loop-holds t)
+    (mul-opens t)
+    (array-copy-out-opens t)
+    (opens-requires t)
+    (mul-ref-of t)
+    (add-ref-of t)
+    (ref-of-requires t)
+    (cast-child t)
+    (leaf-requires t)
+    (sub-search t)
+    (search-requires t)
+    (mul-ds t)
+    (array-set-from-ds t)
+    (least-requires-2 t)
+    (loop-less t)
+    (loop-again t)
+    (returns t)

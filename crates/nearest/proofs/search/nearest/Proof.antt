@@ -1,0 +1,73 @@
+-- `nearest::search::nearest` meets its contract: a root that is a leaf, or a search from the root. Assumes nothing.
+use Prim.Native.Nat.{ℕ, _<_}
+use native.Mathlib.Omega.{arith}
+use mathlib.Core.Path.{_≡_, sym, _∙_}
+use denote.Ref.{now}
+use borrow.Author.Needs.{needs}
+use Rattle.floor.specs.View.{viewOf}
+use Rattle.nearest.proofs.Ready.{ground-shaped}
+use Rattle.nearest.proofs.Start.{no-bays-carried, root-found}
+use Rattle.nearest.proofs.search.nearest.Statement.{statement}
+use Rattle.nearest.proofs.search.nearest.Tie as tie
+
+root-of-requires : tie.Need-root-of-requires
+root-of-requires c κs = let s = c .before in ground-shaped (viewOf (now (s .args .map))) (s .args .q .from) (s .pre .0)
+
+level-of-requires : tie.Need-level-of-requires
+level-of-requires c κs =
+    let s = c .before .before in
+    let shaped = ground-shaped (viewOf (now (s .args .map))) (s .args .q .from) (s .pre .0) in
+    (shaped, rw (c .root-of .ensures) (shaped .rooted))
+
+no-bays-requires : tie.Need-no-bays-requires
+no-bays-requires c κs = search needs
+
+leaf-requires : tie.Need-leaf-requires
+leaf-requires c κs =
+    let s = c .before .before .before .before .before in
+    let v = viewOf (now (s .args .map)) in
+    let shaped = ground-shaped v (s .args .q .from) (s .pre .0) in
+    (s .pre .0, rw (c .before .before .before .root-of .ensures) (shaped .rooted), rw (c .no-bays .ensures) (no-bays-carried v (s .args .q .k) shaped (s .pre .1) (s .pre .2)))
+
+returns : tie.Need-returns
+returns c =
+    let r = c .before .before .before .before in
+    let s = c .before .before .before .before .before .before in
+    root-found (viewOf (now (s .args .map))) (s .args .q) (r .root-of .result) 0 (c .before .no-bays .result) (c .leaf .result) (s .pre .0 .keeps)
+    (r .root-of .ensures) (sym (c .before .before .if1 .taken) ∙ c .before .before .before .level-of .ensures) (c .before .no-bays .ensures) (c .leaf .ensures)
+
+no-bays-requires-2 : tie.Need-no-bays-requires-2
+no-bays-requires-2 c κs = search needs
+
+search-requires : tie.Need-search-requires
+search-requires c κs =
+    let s = c .before .before .before .before .before in
+    let v = viewOf (now (s .args .map)) in
+    let shaped = ground-shaped v (s .args .q .from) (s .pre .0) in
+    let ne : c .before .before .level-of .result ≡ 0 → ⊥ = c .before .if1 .left in (
+      s .pre .0,
+      rw (c .before .before .before .root-of .ensures) (shaped .rooted),
+      sym (c .before .before .level-of .ensures),
+      omega arith,
+      rw (c .no-bays2 .ensures) (no-bays-carried v (s .args .q .k) shaped (s .pre .1) (s .pre .2)),
+    )
+
+returns-2 : tie.Need-returns-2
+returns-2 c =
+    let r = c .before .before .before .before in
+    let s = c .before .before .before .before .before .before in
+    root-found (viewOf (now (s .args .map))) (s .args .q) (r .root-of .result) (c .before .before .before .level-of .result) (c .before .no-bays2 .result) (c .search .result) (s .pre .0 .keeps)
+    (r .root-of .ensures) (c .before .before .before .level-of .ensures) (c .before .no-bays2 .ensures) (c .search .ensures)
+
+pub nearest-spec : {M : Type 1} → statement M
+nearest-spec =
+    tie.close
+    (tie.spec
+    root-of-requires
+    level-of-requires
+    no-bays-requires
+    leaf-requires
+    returns
+    no-bays-requires-2
+    search-requires
+    returns-2)

@@ -1,0 +1,55 @@
+// The search down an accepted map: children nearest first, up to the first that is strictly farther than the kth bay.
+ghost use mathlib.Core.Path.{_≡_};
+ghost use Prim.Native.Nat.{_<_, _≤_};
+ghost use Rattle.floor.specs.View.{viewOf};
+ghost use Rattle.nearest.specs.Shown.{distanceTo};
+ghost use Rattle.nearest.specs.Below.{nodeBays};
+ghost use Rattle.nearest.specs.Best.{Carried};
+ghost use Rattle.nearest.specs.Ground.{Ground};
+ghost use Rattle.nearest.specs.Searched.{Searched, Found};
+use crate::best::Best;
+use crate::best::no_bays;
+use crate::leaf::leaf;
+use crate::question::Question;
+use crate::reach::BEYOND;
+use crate::reach::gaps;
+use crate::reach::least;
+use crate::reach::opens;
+use floor::level_of;
+use floor::ref_of;
+use floor::root_of;
+use measure::SquaredMm;
+
+// The best list after all that is below a node above the leaves.
+pub fn search(map: &[u8], q: Question, node: usize, level: u8, best: Best) -> Best
+    requires { ⌜ Ground (viewOf (now map)) (q .from) × (node < viewOf (now map) .count) × (viewOf (now map) .level node ≡ level) × (0 < level) × Carried (viewOf (now map)) (q .k) best ⌝ }
+    ensures { λ r. ⌜ Searched (viewOf (now (map .entry))) q (nodeBays (viewOf (now (map .entry))) (distanceTo (viewOf (now (map .entry))) (q .from)) level node) best r ⌝ }
+{
+    let mut b = best;
+    let mut ds = gaps(map, q.from, node);
+    let mut j = least(ds);
+    while opens(ds[j], b.worst) {
+        let child = ref_of(map, 8 * node + j) as usize;
+        if level == 1 {
+            b = leaf(map, q, child, b);
+        } else {
+            b = search(map, q, child, level - 1, b);
+        }
+        ds[j] = SquaredMm(BEYOND);
+        j = least(ds);
+    }
+    b
+}
+
+// The page that a question asks for.
+pub fn nearest(map: &[u8], q: Question) -> Best
+    requires { ⌜ Ground (viewOf (now map)) (q .from) × (1 ≤ q .k) × (q .k ≤ 100) ⌝ }
+    ensures { λ r. ⌜ Found (viewOf (now (map .entry))) q r ⌝ }
+{
+    let root = root_of(map);
+    let top = level_of(map, root);
+    if top == 0 {
+        return leaf(map, q, root, no_bays());
+    }
+    search(map, q, root, top, no_bays())
+}
