@@ -8,5 +8,6 @@ pub mod Keys
 pub mod Offer
 pub mod Searching
 pub mod Takes
+pub mod Listed
 pub mod Visits
 pub mod Start

@@ -7,8 +7,8 @@ use mathlib.Core.Path.{_≡_, refl, sym, ap, _∙_}
 use mathlib.Core.List.{List, [], map, List·Memᴰ}
 use mathlib.Core.Bool.{Bool, true, false, cond, _&&_, true≢false}
 use lib.Dec.{leb, ltb}
-use lib.ListN.{length, take, getD, set, length-map, List·getD-map}
-use lib.Seq.{getD-set-same, getD-set-other, length-take-le, getD-take}
+use lib.ListN.{length, getD, set}
+use lib.Seq.{getD-set-same, getD-set-other}
 use borrow.Author.Tests.{ltb-true, ltb-false, lt-ltb, le-ltb, leb-true, leb-false}
 use Rattle.numbers.specs.Below.{countBelow}
 use Rattle.numbers.proofs.Tests.{both}
@@ -36,6 +36,7 @@ use Rattle.nearest.proofs.Before.{in-order}
 use Rattle.nearest.proofs.Spanning.{parts-cross, chosen-out, slot-link, fallen}
 use Rattle.nearest.proofs.Page.{Grows, slot-waits}
 use Rattle.nearest.proofs.Searching.{searched-none}
+use Rattle.nearest.proofs.Listed.{length-list, bay-at}
 
 -- what marks a slot as visited
 abbrev pub done : SquaredMm
@@ -158,11 +159,8 @@ module _ (v : View) (keeps : Keeps v) (distance : ℕ → ℕ) (q : Question) (l
   full-stays c es h full least =
       let k : q .k ≡ suc (q .k - 1) = omega (arith, h .low) in
       let n : c .len ≡ suc (q .k - 1) = omega (arith, full, h .fits, h .low) in
-      let long : length (listOf v c) ≡ suc (q .k - 1) =
-      length-map (keysOf c) (bayOf v) ∙ length-take-le (c .len) (c .keys) (omega (arith, h .room, h .high, h .fits)) ∙ n in
-      let last : getD (listOf v c) (q .k - 1) (bayOf v 0) ≡ bayOf v (getD (c .keys) (q .k - 1) 0) =
-      List·getD-map (bayOf v) (keysOf c) (q .k - 1) 0 ∙ ap (bayOf v) (getD-take (c .len) (c .keys) (q .k - 1) 0 (omega arith)) in
-      rw k (keep-full earlier in-order (q .k - 1) (bayOf v 0) (only (wantedBy q) es) (listOf v c) (sorted-map (bayOf v) earlier (keysOf c) (h .sorted)) long
+      let last = bay-at v (q .k) c h (q .k - 1) (omega arith) in
+      rw k (keep-full earlier in-order (q .k - 1) (bayOf v 0) (only (wantedBy q) es) (listOf v c) (sorted-map (bayOf v) earlier (keysOf c) (h .sorted)) (length-list v (q .k) c h ∙ n)
       (λ y m. rw last (least y (only-out (wantedBy q) y es m .0))))
 
   -- the rest brings nothing

@@ -1,0 +1,4 @@
+-- The laws of the reply.
+pub mod Records
+pub mod Replies
+pub mod Theorems
