@@ -11,7 +11,7 @@ use borrow.Author.Tests.{eqb-true, eqb-false, eq-eqb, ne-eqb, ltb-true, ltb-fals
 use Rattle.order.specs.Order.{Order, Apart}
 use Rattle.order.proofs.Place.{by-test}
 use Rattle.nearest.specs.declared.near_bay.NearBay.{NearBay}
-use Rattle.nearest.specs.Shown.{before, earlier}
+use Rattle.nearest.specs.Shown.{before, earlier, noBay}
 
 -- a comes strictly before b; it does not
 abbrev Comes : NearBay → NearBay → Type 0
@@ -80,3 +80,10 @@ told-apart a b h = by-test (earlier a b) inl (λ e. inr (comes-true b a (other (
 -- what is strictly farther does not come before; what is as far may
 pub farther-waits : (a b : NearBay) → b .dsq .0 < a .dsq .0 → earlier a b ≡ false
 farther-waits a b h = waits-false a b (inl h)
+
+-- every bay but a bay 0 comes after the start
+pub after-zero : (b : NearBay) → 0 < b .bay → before 0 0 (b .dsq .0) (b .bay) ≡ true
+after-zero b h = comes-true noBay b (by-test (eqb 0 (b .dsq .0)) (λ e. inr (eqb-true 0 (b .dsq .0) e, h)) (λ e. inl (other (eqb-false 0 (b .dsq .0) e))))
+  where
+    other : (0 ≡ b .dsq .0 → ⊥) → 0 < b .dsq .0
+    other ne = omega arith

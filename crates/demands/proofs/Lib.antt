@@ -1,0 +1,5 @@
+-- The demands hold.
+pub mod Reading
+pub mod Whole
+pub mod Pages
+pub mod Demands
