@@ -3,3 +3,4 @@ pub mod Reading
 pub mod Whole
 pub mod Pages
 pub mod Demands
+pub mod Examples

@@ -2,3 +2,4 @@
 pub mod Bays
 pub mod Runs
 pub mod Demands
+pub mod Examples
