@@ -1,4 +1,5 @@
 -- The laws of the reply.
 pub mod Records
+pub mod Reading
 pub mod Replies
 pub mod Theorems

@@ -17,11 +17,12 @@ use Rattle.order.proofs.Place.{by-test}
 use Rattle.nearest.specs.declared.near_bay.NearBay.{NearBay}
 use Rattle.nearest.specs.declared.question.Mark.{Mark}
 use Rattle.nearest.specs.declared.question.Question.{Question}
+use Rattle.ask.specs.Room.{recordsIn}
 use Rattle.ask.specs.Reply.{accepted, refusal, Reply, replyOf}
 use Rattle.ask.proofs.Replies.{accepted-keeps}
 use Rattle.ask.proofs.Theorems.{table-holds}
 use Rattle.demands.specs.Bays.{visible, SameBays, Alike}
-use Rattle.demands.specs.Runs.{Call, replyTo, recordsIn, received, joined, start, nextMark, acceptedIn, cameShort, Bytes, Turn, asking, pageOn, Asks, Run, waiting, refused, full, short, Pairwise, SameCall, SameTurn}
+use Rattle.demands.specs.Runs.{Call, replyTo, received, joined, start, nextMark, acceptedIn, cameShort, Bytes, Turn, asking, pageOn, Asks, Run, waiting, refused, full, short, Pairwise, SameCall, SameTurn}
 use Rattle.demands.specs.Demands.{listOn, Demand1, Demand2, Paging, Demand3}
 use Rattle.demands.proofs.Whole.{whole-in, whole-out, whole-length, whole-strict, from-start, whole-once}
 use Rattle.demands.proofs.Pages.{past, page-rest, Granted, granted, reply-page, reply-refused, number-is, refused-none, depends-only, Got, got}

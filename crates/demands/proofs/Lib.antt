@@ -1,5 +1,4 @@
 -- The demands hold.
-pub mod Reading
 pub mod Whole
 pub mod Pages
 pub mod Demands

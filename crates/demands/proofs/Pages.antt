@@ -22,12 +22,13 @@ use Rattle.nearest.specs.declared.question.Question.{Question}
 use Rattle.nearest.specs.Badge.{badgeOk}
 use Rattle.nearest.specs.Shown.{earlier, afterMark, wholeList, page}
 use Rattle.nearest.proofs.Before.{in-order}
+use Rattle.ask.specs.Room.{recordsIn}
 use Rattle.ask.specs.Reply.{countOk, accepted, refusal, pageOf, Reply, refused, answered, replyOf}
 use Rattle.ask.proofs.Replies.{accepted-keeps}
 use Rattle.demands.specs.Bays.{SameBays, Alike}
-use Rattle.demands.specs.Runs.{Call, replyTo, recordsIn, received, markAt, nextMark, Asks}
+use Rattle.demands.specs.Runs.{Call, replyTo, received, markAt, nextMark, Asks}
 use Rattle.demands.specs.Demands.{listOn}
-use Rattle.demands.proofs.Reading.{Small, room-read}
+use Rattle.ask.proofs.Reading.{Small, room-read}
 use Rattle.demands.proofs.Whole.{whole-small, whole-same}
 
 -- those strictly after a mark

@@ -31,7 +31,7 @@ use Rattle.ask.proofs.Replies.{accepted-keeps}
 use Rattle.demands.specs.Bays.{Entry, entryIn, entries, visible, seenFrom, SameBays}
 use Rattle.demands.specs.Runs.{Bytes}
 use Rattle.demands.specs.Demands.{listOn, NoneTwice, numbersOf}
-use Rattle.demands.proofs.Reading.{Small}
+use Rattle.ask.proofs.Reading.{Small}
 
 module _ (map′ : List ℕ) (badge : ℕ) (point : Point) where
   abbrev v : View

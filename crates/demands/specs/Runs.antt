@@ -2,13 +2,14 @@
 use mathlib.Core.Path.{_≡_}
 use mathlib.Core.Bool.{Bool, true, false, cond, _&&_}
 use mathlib.Core.List.{List, [], _∷_, _++_}
-use Prim.Native.Nat.{ℕ, zero, suc, _+_, _*_, _<_}
+use Prim.Native.Nat.{ℕ, _+_, _<_}
 use lib.Dec.{eqb, ltb}
-use lib.ListN.{take, drop, getD}
+use lib.ListN.{getD}
 use Rattle.measure.specs.declared.Point.{Point}
 use Rattle.nearest.specs.declared.near_bay.NearBay.{NearBay}
 use Rattle.nearest.specs.declared.question.Mark.{Mark}
 use Rattle.nearest.specs.declared.question.Question.{Question}
+use Rattle.ask.specs.Room.{recordsIn}
 use Rattle.ask.specs.Reply.{Reply, replyOf}
 use Rattle.demands.specs.Bays.{SameBays, Alike}
 
@@ -20,19 +21,6 @@ pub record Call : Type 0 where
 
 abbrev pub replyTo : Call → Reply
 replyTo c = replyOf (c .map) (c .question) (c .room)
-
--- what whoever asked reads out of the room: a number, lowest byte first; a record of 16 bytes; the first n records
-unfoldable pub numberIn : List ℕ → ℕ
-numberIn [] = 0
-numberIn (b ∷ bs) = b + 256 * numberIn bs
-
-unfoldable pub recordIn : List ℕ → NearBay
-recordIn bytes =
-    record { bay = numberIn (take 4 bytes); zone = numberIn (take 1 (drop 4 bytes)); dsq = record { 0 = numberIn (take 8 (drop 8 bytes)) } }
-
-unfoldable pub recordsIn : ℕ → List ℕ → List NearBay
-recordsIn zero bytes = []
-recordsIn (suc n) bytes = recordIn bytes ∷ recordsIn n (drop 16 bytes)
 
 -- the bays received by a call, and those of many, joined
 abbrev pub received : Call → List NearBay

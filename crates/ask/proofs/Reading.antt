@@ -6,8 +6,7 @@ use mathlib.Core.List.{List, [], _∷_, _++_, append-assoc, List·Memᴰ, List·
 use lib.ListN.{length, take, drop, replicate}
 use Rattle.room.specs.Record.{leBytes, recordBytes}
 use Rattle.nearest.specs.declared.near_bay.NearBay.{NearBay}
-use Rattle.ask.specs.Room.{recordOf, recordsOf, roomWith}
-use Rattle.demands.specs.Runs.{numberIn, recordIn, recordsIn}
+use Rattle.ask.specs.Room.{recordOf, recordsOf, roomWith, numberIn, recordIn, recordsIn}
 
 number-back : (w n : ℕ) → n < 256 ^ w → numberIn (leBytes w n) ≡ n
 unfolding numberIn leBytes

@@ -1,0 +1,2 @@
+-- The decimal of a number.
+pub mod Decimal
