@@ -7,7 +7,6 @@ use lib.IntN.{pos}
 use Rattle.numbers.specs.Below.{allBelow}
 use Rattle.measure.specs.declared.Span.{Span}
 use Rattle.measure.specs.Axis.{spanIn}
-use Rattle.floor.specs.declared.Slot.{Slot}
 use Rattle.floor.specs.View.{View, axisCount, filled, leaf}
 use Rattle.rules.specs.Spans.{sameSpan}
 
@@ -28,11 +27,6 @@ zeroSpan = record { low = pos 0; high = pos 0 }
 unfoldable pub blankOk : View → ℕ → Bool
 blankOk v j =
     allBelow (λ a. sameSpan (v .span j a) zeroSpan) axisCount && eqb (v .ref j) 0 && eqb (v .zone j) 0 && v .slotClear j
-
--- the same of a slot as it was read
-unfoldable pub blankSlot : Slot → Bool
-blankSlot s =
-    sameSpan (s .bounds .x) zeroSpan && sameSpan (s .bounds .y) zeroSpan && eqb (s .reference) 0 && eqb (s .zone) 0 && s .clear
 
 unfoldable pub slotOk : View → ℕ → Bool
 slotOk v j = cond (filled v j) (entryOk v j) (blankOk v j)

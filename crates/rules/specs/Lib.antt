@@ -6,3 +6,4 @@ pub mod Fill
 pub mod Links
 pub mod Boxes
 pub mod Verdicts
+pub mod Leaning

@@ -2,21 +2,20 @@
 use mathlib.Core.Path.{_≡_}
 use mathlib.Core.Bool.{Bool, true, false, cond}
 use mathlib.Core.List.{List, [], _∷_}
-use Prim.Native.Nat.{ℕ, _*_, _/_, _<_}
+use Prim.Native.Nat.{ℕ, _<_}
 use lib.Dec.{ltb}
-use lib.ListN.{getD}
 use Rattle.numbers.specs.Below.{firstFail}
-use Rattle.floor.specs.View.{View, viewOf, filled, leaf}
-use Rattle.bays.specs.Bays.{lone, baysOk, BaysApart}
+use Rattle.floor.specs.View.{View, viewOf}
+use Rattle.bays.specs.Bays.{baysOk, BaysApart}
 use Rattle.rules.specs.declared.Rule.{Rule}
 use Rattle.rules.specs.declared.Rule.the-variants.{Form, Fill, Links, Boxes, Bays}
 use Rattle.rules.specs.declared.Verdict.{Verdict}
 use Rattle.rules.specs.declared.Verdict.the-variants.{Accepted, BadHeader, Broken}
 use Rattle.rules.specs.Header.{headerOk, HeaderRight}
-use Rattle.rules.specs.Form.{slotOk, formOk, InForm}
+use Rattle.rules.specs.Form.{formOk, InForm}
 use Rattle.rules.specs.Fill.{fillOk, WellFilled}
-use Rattle.rules.specs.Links.{named, stepOk, linksOk, WellLinked}
-use Rattle.rules.specs.Boxes.{tightOk, boxesOk, WellBoxed}
+use Rattle.rules.specs.Links.{linksOk, WellLinked}
+use Rattle.rules.specs.Boxes.{boxesOk, WellBoxed}
 
 -- document 01's number of a rule
 abbrev pub ruleNumber : Rule → ℕ
@@ -44,30 +43,6 @@ ruleOk Fill v n = fillOk v n
 ruleOk Links v n = linksOk v n
 ruleOk Boxes v n = boxesOk v n
 ruleOk Bays v n = baysOk v n
-
--- what a rule tests of one slot: of every slot, or of those above the leaves
-abbrev pub slotRule : Rule → View → ℕ → Bool
-slotRule Form v j = slotOk v j
-slotRule Fill v j = true
-slotRule Links v j = stepOk v j
-slotRule Boxes v j = tightOk v j
-slotRule Bays v j = lone v j
-
--- what the test of slot j leans on: along a link the form rule has shown that there is a node
-abbrev pub Leans : Rule → View → ℕ → Type 0
-Leans Form v j = Unit {0}
-Leans Fill v j = Unit {0}
-Leans Links v j = filled v j ≡ true → v .ref j < v .count
-Leans Boxes v j = filled v j ≡ true → v .ref j < v .count
-Leans Bays v j = Unit {0}
-
--- the same for every slot above the leaves of the whole map
-abbrev pub LeansAll : Rule → View → Type 0
-LeansAll r v = (j : ℕ) → j < 8 * v .count → leaf v (j / 8) ≡ false → Leans r v j
-
--- the counts that the link rule leans on
-abbrev pub Counted : View → List ℕ → Type 0
-Counted v counts = (t : ℕ) → t < v .count → getD counts t 0 ≡ named v t
 
 -- the lowest node that breaks a rule, or N
 abbrev pub lowestFault : Rule → View → ℕ

@@ -14,7 +14,8 @@ ghost use Prim.Native.Nat.{ℕ, _+_, _*_, _<_};
 ghost use Rattle.numbers.specs.Below.{allBelow};
 ghost use Rattle.floor.specs.View.{viewOf, leaf, Shaped};
 ghost use Rattle.rules.specs.Links.{named};
-ghost use Rattle.rules.specs.Verdicts.{ruleNumber, numberOf, nodeOf, slotRule, Leans, LeansAll, Counted, ruleOk, lowestFault, verdictOf};
+ghost use Rattle.rules.specs.Verdicts.{ruleNumber, numberOf, nodeOf, ruleOk, lowestFault, verdictOf};
+ghost use Rattle.rules.specs.Leaning.{slotRule, Leans, LeansAll, Counted};
 
 // A rule that is tried node by node.
 pub enum Rule {

@@ -5,7 +5,7 @@ ghost use Prim.Native.Nat.{ℕ, _*_, _<_};
 ghost use Rattle.numbers.specs.Below.{one};
 ghost use Rattle.floor.specs.View.{viewOf, filled, link, Shaped};
 ghost use Rattle.rules.specs.Links.{named, namedOk, stepOk};
-ghost use Rattle.rules.specs.Verdicts.{Counted};
+ghost use Rattle.rules.specs.Leaning.{Counted};
 
 fn once(t: bool) -> u16
     ensures { λ r. ⌜ r ≡ one t ⌝ }

@@ -6,7 +6,7 @@ use native.Mathlib.Omega.{arith}
 use Rattle.numbers.specs.Below.{allBelow}
 use Rattle.numbers.proofs.Below.{all-step, all-end}
 use Rattle.floor.specs.View.{viewOf}
-use Rattle.rules.specs.Verdicts.{slotRule}
+use Rattle.rules.specs.Leaning.{slotRule}
 use borrow.Author.Needs.{needs}
 use Rattle.rules.proofs.slots_hold.Statement.{statement}
 use Rattle.rules.proofs.slots_hold.Tie as tie

@@ -1,7 +1,7 @@
 -- `rules::form::blank_ok` meets its contract: its tests are the definition's own.
 -- Assumes nothing.
 use mathlib.Core.Path.{_≡_}
-use Rattle.rules.specs.Form.{blankSlot}
+use Rattle.rules.specs.Leaning.{blankSlot}
 use borrow.Author.Needs.{needs}
 use Rattle.rules.proofs.form.blank_ok.Statement.{statement}
 use Rattle.rules.proofs.form.blank_ok.Tie as tie

@@ -2,7 +2,8 @@
 -- Assumes nothing.
 use mathlib.Core.Path.{_≡_, sym, ap, _∙_}
 use borrow.Author.Tests.{not-true, not-false, eq-eqb, ne-eqb}
-use Rattle.rules.specs.Form.{blankSlot, blankOk, slotOk}
+use Rattle.rules.specs.Form.{blankOk, slotOk}
+use Rattle.rules.specs.Leaning.{blankSlot}
 use borrow.Author.Needs.{needs}
 use Rattle.rules.proofs.form.slot_ok.Statement.{statement}
 use Rattle.rules.proofs.form.slot_ok.Tie as tie
