@@ -2,4 +2,5 @@
 pub mod Records
 pub mod Reading
 pub mod Replies
+pub mod Answers
 pub mod Theorems

@@ -25,7 +25,8 @@ use Rattle.demands.specs.Bays.{visible, SameBays, Alike}
 use Rattle.demands.specs.Runs.{Call, replyTo, received, joined, start, nextMark, acceptedIn, cameShort, Bytes, Turn, asking, pageOn, Asks, Run, waiting, refused, full, short, Pairwise, SameCall, SameTurn}
 use Rattle.demands.specs.Demands.{listOn, Demand1, Demand2, Paging, Demand3}
 use Rattle.demands.proofs.Whole.{whole-in, whole-out, whole-length, whole-strict, from-start, whole-once}
-use Rattle.demands.proofs.Pages.{past, page-rest, Granted, granted, reply-page, reply-refused, number-is, refused-none, depends-only, Got, got}
+use Rattle.ask.proofs.Answers.{Granted, granted, reply-page, reply-refused, number-is}
+use Rattle.demands.proofs.Pages.{past, page-rest, refused-none, depends-only, Got, got}
 
 -- ---- demands 1 and 2
 

@@ -36,7 +36,7 @@ use Rattle.demands.specs.Bays.{Entry, entries, visible, seenFrom, SameBa
 use Rattle.demands.specs.Runs.{replyTo, joined, start, acceptedIn, Bytes, Turn, asking, pageOn, Run}
 use Rattle.demands.specs.Demands.{listOn}
 use Rattle.demands.specs.Examples.{tallMap, movedMap, lamp, question}
-use Rattle.demands.proofs.Pages.{reply-page, number-is}
+use Rattle.ask.proofs.Answers.{reply-page, number-is}
 use Rattle.demands.proofs.Demands.{demand-3}
 
 -- ---- the maps are accepted, by computing the verdict

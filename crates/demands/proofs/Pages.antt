@@ -5,13 +5,11 @@ use native.Mathlib.Omega.{arith}
 use mathlib.Core.Path.{_≡_, refl, sym, ap, ap₂, subst, _∙_}
 use mathlib.Core.Logic.{⊎-elim}
 use mathlib.Core.List.{List, [], _∷_, List·Memᴰ, List·Memᴰ·head, List·Memᴰ·tail, List·Memᴰ·not-nil, List·Memᴰ·cases-cons}
-use mathlib.Core.Bool.{Bool, true, false, not}
-use lib.Dec.{eqb, leb, ltb}
+use mathlib.Core.Bool.{Bool, true}
+use lib.Dec.{eqb}
 use lib.ListN.{length, take, drop}
-use borrow.Author.Tests.{leb-true, eqb-true, eqb-false, eq-eqb, ne-eqb}
-use Rattle.numbers.proofs.Tests.{both}
+use borrow.Author.Tests.{eqb-true, eqb-false}
 use Rattle.measure.specs.declared.Point.{Point}
-use Rattle.measure.specs.Answer.{pointOk}
 use Rattle.order.specs.Order.{only, Strict}
 use Rattle.order.proofs.Place.{by-test}
 use Rattle.order.proofs.Only.{only-out}
@@ -19,14 +17,13 @@ use Rattle.order.proofs.After.{after-next}
 use Rattle.nearest.specs.declared.near_bay.NearBay.{NearBay}
 use Rattle.nearest.specs.declared.question.Mark.{Mark}
 use Rattle.nearest.specs.declared.question.Question.{Question}
-use Rattle.nearest.specs.Badge.{badgeOk}
 use Rattle.nearest.specs.Shown.{earlier, afterMark, wholeList, page}
 use Rattle.nearest.proofs.Before.{in-order}
 use Rattle.ask.specs.Room.{recordsIn}
-use Rattle.ask.specs.Reply.{countOk, accepted, refusal, pageOf, Reply, refused, answered, replyOf}
-use Rattle.ask.proofs.Replies.{accepted-keeps}
+use Rattle.ask.specs.Reply.{accepted, refusal, pageOf, Reply, refused, answered, replyOf}
+use Rattle.ask.proofs.Answers.{Granted, granted, reply-page, reply-refused, number-is}
 use Rattle.demands.specs.Bays.{SameBays, Alike}
-use Rattle.demands.specs.Runs.{Call, replyTo, received, markAt, nextMark, Asks}
+use Rattle.demands.specs.Runs.{Bytes, Call, replyTo, received, markAt, nextMark, Asks}
 use Rattle.demands.specs.Demands.{listOn}
 use Rattle.ask.proofs.Reading.{Small, room-read}
 use Rattle.demands.proofs.Whole.{whole-small, whole-same}
@@ -52,47 +49,6 @@ page-rest (suc k) m l s = go (only (past m) l) refl (λ x. page-rest k (markAt x
     go (x ∷ r) e ih =
         let f : only (past (markAt x)) l ≡ r = after-next earlier in-order (marker m) x r l s e in
         subst (λ (t : List NearBay). only (past (nextMark (markAt x) (take k t))) l ≡ drop k t) f (ih x)
-
--- ---- what answer 0 says
-
-pub record Granted (map : List ℕ) (q : Question) : Type 0 where
-  pub point : pointOk (q .from) ≡ true
-  pub k-low : 1 ≤ q .k
-  pub taken : accepted map ≡ true
-
-pub granted : (map : List ℕ) (q : Question) (size : ℕ) → refusal map q size ≡ 0 → Granted map q
-unfolding refusal
-granted map q size e =
-    by-test (pointOk (q .from))
-    (λ p. by-test (countOk (q .k))
-    (λ k. by-test (badgeOk (q .badge .0))
-    (λ b. by-test (ltb size (16 * q .k))
-    (λ s. absurd (omega (arith, rw (p, k, b, s) at e)))
-    (λ s. by-test (accepted map)
-    (λ a. record { point = p; k-low = leb-true 1 (q .k) (both (leb 1 (q .k)) (leb (q .k) 100) k .0); taken = a })
-    (λ a. absurd (omega (arith, rw (p, k, b, s, a) at e)))))
-    (λ b. absurd (omega (arith, rw (p, k, b) at e))))
-    (λ k. absurd (omega (arith, rw (p, k) at e))))
-    (λ p. absurd (omega (arith, rw p at e)))
-
-module _ (map : List ℕ) (q : Question) (room : List ℕ) where
-  abbrev number : ℕ
-  number = refusal map q (length room)
-
-  pub reply-page : number ≡ 0 → replyOf map q room ≡ answered (pageOf map q) (q .k) room
-  unfolding replyOf
-  reply-page e = rw (eq-eqb number 0 e)
-
-  pub reply-refused : (number ≡ 0 → ⊥) → replyOf map q room ≡ refused number room
-  unfolding replyOf
-  reply-refused ne = rw (ne-eqb number 0 ne)
-
-  -- the reply's number is that of the table
-  pub number-is : replyOf map q room .number ≡ number
-  number-is =
-      by-test (eqb number 0)
-      (λ t. let z = eqb-true number 0 t in ap (λ (r : Reply). r .number) (reply-page z) ∙ sym z)
-      (λ t. ap (λ (r : Reply). r .number) (reply-refused (eqb-false number 0 t)))
 
 -- a refused call brings nothing
 pub refused-none : (c : Call) → (replyTo c .number ≡ 0 → ⊥) → received c ≡ []
@@ -131,6 +87,13 @@ take-mem zero l x m = absurd (List·Memᴰ·not-nil m)
 take-mem (suc k) [] x m = m
 take-mem (suc k) (y ∷ ys) x m = ⊎-elim (λ q. List·Memᴰ·head q) (λ n. List·Memᴰ·tail (take-mem k ys x n)) (List·Memᴰ·cases-cons m)
 
+-- the numbers of a page fit a record's bytes
+pub page-small : (map : List ℕ) (q : Question) → Bytes map → Granted map q → (r : NearBay) → List·Memᴰ r (pageOf map q) → Small r
+unfolding page
+page-small map q bytes g r m =
+    whole-small map (g .taken) (q .badge .0) (q .from) bytes (g .point) r
+    (only-out (past (q .mark)) r (listOn map (q .badge .0) (q .from)) (take-mem (q .k) (only (past (q .mark)) (listOn map (q .badge .0) (q .from))) r m) .0)
+
 pub got : (home : List ℕ) (badge : ℕ) (point : Point) (mark : Mark) (c : Call) → accepted home ≡ true → Asks badge point home mark c
     → Got (only (past mark) (listOn home badge point)) c
 unfolding page
@@ -148,13 +111,8 @@ got home badge point mark c ok a = record { page = is-page ∙ page-is; count = 
     is : replyTo c ≡ answered (pageOf (c .map) (c .question)) (c .question .k) (c .room)
     is = reply-page (c .map) (c .question) (c .room) zero-is
 
-    small : (r : NearBay) → List·Memᴰ r (pageOf (c .map) (c .question)) → Small r
-    small r m =
-        whole-small (c .map) (g .taken) (c .question .badge .0) (c .question .from) (a .bytes) (g .point) r
-        (only-out (past (c .question .mark)) r (listOn (c .map) (c .question .badge .0) (c .question .from)) (take-mem (c .question .k) _ r m) .0)
-
     is-page : received c ≡ pageOf (c .map) (c .question)
-    is-page = ap (λ (r : Reply). recordsIn (r .found) (r .room)) is ∙ room-read (c .question .k) (pageOf (c .map) (c .question)) (c .room) small
+    is-page = ap (λ (r : Reply). recordsIn (r .found) (r .room)) is ∙ room-read (c .question .k) (pageOf (c .map) (c .question)) (c .room) (page-small (c .map) (c .question) (a .bytes) g)
 
     whole-here : listOn (c .map) (c .question .badge .0) (c .question .from) ≡ listOn home badge point
     whole-here = ap₂ (listOn (c .map)) (a .same-badge) (a .same-point) ∙ sym (whole-same home (c .map) badge point ok (g .taken) (a .shows))

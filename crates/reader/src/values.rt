@@ -1,0 +1,94 @@
+// What was read, as values of the question's types.
+ghost use mathlib.Core.Path.{_≡_};
+ghost use mathlib.Core.List.{[], _∷_};
+ghost use Rattle.reader.specs.Scan.{Within};
+ghost use Rattle.reader.specs.Line.{isNumber, allNumbers, wholeOf, sizeOf, i32Most, i32Least, u32Most, unsignedLeast, questionOf};
+ghost use Rattle.reader.specs.Table.{fields, Ranges};
+use crate::number::Number;
+use measure::Point;
+use measure::SquaredMm;
+use nearest::Badge;
+use nearest::Mark;
+use nearest::Question;
+
+fn is_number(n: Number) -> bool
+    ensures { λ r. ⌜ r ≡ isNumber n ⌝ }
+{
+    match n {
+        Number::Is(_, _) => true,
+        Number::Wrong => false,
+    }
+}
+
+pub fn are_numbers(x: Number, y: Number, k: Number, badge: Number, dsq: Number, bay: Number) -> bool
+    ensures { λ r. ⌜ r ≡ allNumbers x y k badge dsq bay ⌝ }
+{
+    is_number(x)
+        & (is_number(y) & (is_number(k) & (is_number(badge) & (is_number(dsq) & is_number(bay)))))
+}
+
+// `!(size - 1)` is minus size, and reaches the least i32, which has no opposite.
+fn whole(n: Number) -> i32
+    requires { ⌜ Within i32Most i32Least n ⌝ }
+    ensures { λ r. ⌜ r ≡ wholeOf n ⌝ }
+{
+    match n {
+        Number::Is(minus, size) => {
+            if minus {
+                !((size - 1) as i32)
+            } else {
+                size as i32
+            }
+        }
+        Number::Wrong => 0,
+    }
+}
+
+fn natural(n: Number) -> u64
+    ensures { λ r. ⌜ r ≡ sizeOf n ⌝ }
+{
+    match n {
+        Number::Is(_, size) => size,
+        Number::Wrong => 0,
+    }
+}
+
+fn small(n: Number) -> u32
+    requires { ⌜ Within u32Most unsignedLeast n ⌝ }
+    ensures { λ r. ⌜ r ≡ sizeOf n ⌝ }
+{
+    match n {
+        Number::Is(_, size) => size as u32,
+        Number::Wrong => 0,
+    }
+}
+
+pub fn question_of(
+    x: Number,
+    y: Number,
+    k: Number,
+    badge: Number,
+    dsq: Number,
+    bay: Number,
+) -> Question
+    requires { ⌜ Ranges fields (x ∷ y ∷ k ∷ badge ∷ dsq ∷ bay ∷ []) ⌝ }
+    ensures { λ r. ⌜ r ≡ questionOf x y k badge dsq bay ⌝ }
+{
+    let from = Point {
+        x: whole(x),
+        y: whole(y),
+    };
+    let k = natural(k) as usize;
+    let badge = Badge(small(badge));
+    let dsq = SquaredMm(natural(dsq));
+    let mark = Mark {
+        dsq,
+        bay: small(bay),
+    };
+    Question {
+        from,
+        k,
+        badge,
+        mark,
+    }
+}

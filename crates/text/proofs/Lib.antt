@@ -1,0 +1,3 @@
+-- The laws of the text.
+pub mod Laws
+pub mod Theorems

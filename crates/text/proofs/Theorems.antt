@@ -1,0 +1,28 @@
+-- From text to text: a good question's own text is answered with the page, printed. Assumes nothing.
+use mathlib.Core.Path.{_≡_, ap, _∙_}
+use mathlib.Core.List.{List, []}
+use Prim.Native.Nat.{ℕ}
+use lib.ListN.{length}
+use Rattle.nearest.specs.declared.question.Question.{Question}
+use Rattle.reader.specs.Question.{questionText, Fitting}
+use Rattle.reader.proofs.Theorems.{read-back}
+use Rattle.printer.specs.Printed.{printed}
+use Rattle.ask.specs.Reply.{refusal, pageOf, refused, replyOf}
+use Rattle.ask.specs.Room.{recordsIn}
+use Rattle.ask.proofs.Reading.{room-read}
+use Rattle.ask.proofs.Answers.{granted, reply-page, reply-refused}
+use Rattle.demands.specs.Runs.{Bytes}
+use Rattle.demands.proofs.Pages.{page-small}
+use Rattle.text.specs.Text.{emptyRoom, replyText, answerText}
+use Rattle.text.proofs.Laws.{text-read}
+
+module _ (map : List ℕ) (q : Question) (f : Fitting q) where
+  pub says-page : Bytes map → refusal map q (length emptyRoom) ≡ 0 → answerText map (questionText q) ≡ printed 0 (pageOf map q)
+  says-page bytes z =
+      text-read map (questionText q) q (read-back q f)
+      ∙ ap replyText (reply-page map q emptyRoom z)
+      ∙ ap (printed 0) (room-read (q .k) (pageOf map q) emptyRoom (page-small map q bytes (granted map q (length emptyRoom) z)))
+
+  pub says-refusal : (refusal map q (length emptyRoom) ≡ 0 → ⊥) → answerText map (questionText q) ≡ printed (refusal map q (length emptyRoom)) []
+  unfolding recordsIn
+  says-refusal ne = text-read map (questionText q) q (read-back q f) ∙ ap replyText (reply-refused map q emptyRoom ne)

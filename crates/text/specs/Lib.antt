@@ -1,0 +1,2 @@
+-- What `nearby` says.
+pub mod Text
