@@ -55,5 +55,8 @@ module _ (a b w : List ℕ) (to : ℕ) (f : Wrote a b w 0 to) where
   pub wrote-first : take to b ≡ w
   wrote-first = ap (take to) (f .bytes) ∙ take-at w (drop to a) to is-long
 
+  pub wrote-inside : to ≤ length b
+  wrote-inside = omega (arith, ap length (f .bytes) ∙ length-append w (drop to a), is-long)
+
   pub wrote-rest : drop to b ≡ drop to a
   wrote-rest = ap (drop to) (f .bytes) ∙ drop-at w (drop to a) to is-long

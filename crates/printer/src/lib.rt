@@ -27,7 +27,7 @@ fn put_head(out: &mut [u8], at: usize, key: &[u8], n: u64) -> usize
 // Writes the reply from the start of `out`, and answers its length. What comes after it in `out` stays as it was.
 pub fn print_reply(out: &mut [u8; 8192], number: u32, found: usize, room: &[u8; 1600]) -> usize
     requires { ⌜ found ≤ 100 ⌝ }
-    ensures { λ r. ⌜ (take r (now (out .exit)) ≡ printed number (recordsIn found (now (room .entry)))) × (r ≤ 8192) × (drop r (now (out .exit)) ≡ drop r (now (out .entry))) ⌝ }
+    ensures { λ r. ⌜ (take r (now (out .exit)) ≡ printed number (recordsIn found (now (room .entry)))) × (r ≤ length (now (out .exit))) × (drop r (now (out .exit)) ≡ drop r (now (out .entry))) ⌝ }
 {
     let second = put_head(out, 0, b"answer=", number as u64);
     let lines = put_head(out, second, b"found=", found as u64);

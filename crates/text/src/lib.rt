@@ -2,7 +2,7 @@
 // writes. Anyone may call it; it has no `requires`.
 ghost use mathlib.Core.Path.{_≡_};
 ghost use Prim.Native.Nat.{_≤_};
-ghost use lib.ListN.{take};
+ghost use lib.ListN.{length, take};
 ghost use Rattle.text.specs.Text.{answerText};
 use ask::ask;
 use printer::print_reply;
@@ -11,7 +11,7 @@ use reader::read_question;
 
 // Writes the answer to the start of out, and gives its length.
 pub fn answer_text(map: &[u8], input: &[u8], out: &mut [u8; 8192]) -> usize
-    ensures { λ r. ⌜ (r ≤ 8192) × (take r (now (out .exit)) ≡ answerText (now (map .entry)) (now (input .entry))) ⌝ }
+    ensures { λ r. ⌜ (r ≤ length (now (out .exit))) × (take r (now (out .exit)) ≡ answerText (now (map .entry)) (now (input .entry))) ⌝ }
 {
     let mut room = [0u8; 1600];
     match read_question(input) {

@@ -2,7 +2,7 @@
 use native.Mathlib.Omega.{arith}
 use borrow.Author.Needs.{needs}
 use Rattle.printer.specs.Printed.{printed}
-use Rattle.printer.proofs.Writing.{wrote-more, wrote-first, wrote-rest}
+use Rattle.printer.proofs.Writing.{wrote-more, wrote-first, wrote-inside, wrote-rest}
 use Rattle.printer.proofs.Reading.{length-records}
 use Rattle.printer.proofs.Lines.{head-short}
 use Rattle.printer.proofs.print_reply.Statement.{statement}
@@ -58,7 +58,7 @@ returns c =
     let wrote =
     wrote-more _ _ _ _ _ _ _ _ (first .ensures) (wrote-more _ _ _ _ _ _ _ _ (second .ensures) (c .put-records .ensures)) in (
       rw (length-records (s .args .found) room) (wrote-first _ _ _ _ wrote),
-      omega (arith, wrote .room, c .before .before .before .before .before .before .before .before .put-head-arg .given .0 .1),
+      wrote-inside _ _ _ _ wrote,
       wrote-rest _ _ _ _ wrote,
     )
 
