@@ -1,0 +1,2 @@
+-- What the exports give.
+pub mod Station
