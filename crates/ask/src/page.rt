@@ -9,6 +9,7 @@ use nearest::Best;
 use nearest::bay_of;
 use room::put_record;
 
+// It has a `requires`: `ask`, which alone calls it, has checked the map and tested the room's length.
 pub fn write_page(map: &[u8], best: Best, k: usize, room: &mut [u8])
     requires { ⌜ Shaped (viewOf (now map)) × Carried (viewOf (now map)) k best × (16 * k ≤ length (now room)) ⌝ }
     ensures { λ r. ⌜ now (room .exit) ≡ roomWith k (listOf (viewOf (now (map .entry))) best) (now (room .entry)) ⌝ }

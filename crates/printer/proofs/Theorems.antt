@@ -52,7 +52,7 @@ pub refusal-printed : printed 2 [] ≡
 unfolding printed linesOf decimal decimalBy
 refusal-printed = refl
 
--- any two outcomes that meet the contract of `print_reply` coincide
+-- any two outcomes that meet a contract of this form, `print_reply`'s, coincide: the length and every byte of the buffer
 module _ (before text : List ℕ) where
   is-length : (after : List ℕ) (r : ℕ) → r ≤ length after → take r after ≡ text → length text ≡ r
   is-length after r h first = ap length (sym first) ∙ length-take-le r after h
@@ -60,10 +60,9 @@ module _ (before text : List ℕ) where
   is-after : (after : List ℕ) (r : ℕ) → r ≤ length after → take r after ≡ text → drop r after ≡ drop r before → after ≡ text ++ drop (length text) before
   is-after after r h first rest = sym (take-append-drop r after) ∙ rw (first, rest, is-length after r h first)
 
-  pub reply-unique : (a b : List ℕ) (r s : ℕ) → length a ≡ 8192 → length b ≡ 8192
-      → (take r a ≡ text) × (r ≤ 8192) × (drop r a ≡ drop r before) → (take s b ≡ text) × (s ≤ 8192) × (drop s b ≡ drop s before)
-      → (r ≡ s) × (a ≡ b)
-  reply-unique a b r s m n p q =
-      let h : r ≤ length a = omega (arith, p .1) in
-      let k : s ≤ length b = omega (arith, q .1) in
-      (sym (is-length a r h (p .0)) ∙ is-length b s k (q .0), is-after a r h (p .0) (p .2) ∙ sym (is-after b s k (q .0) (q .2)))
+  pub reply-unique : (a b : List ℕ) (r s : ℕ) → (take r a ≡ text) × (r ≤ length a) × (drop r a ≡ drop r before)
+      → (take s b ≡ text) × (s ≤ length b) × (drop s b ≡ drop s before) → (r ≡ s) × (a ≡ b)
+  reply-unique a b r s p q = (
+    sym (is-length a r (p .1) (p .0)) ∙ is-length b s (q .1) (q .0),
+    is-after a r (p .1) (p .0) (p .2) ∙ sym (is-after b s (q .1) (q .0) (q .2)),
+  )

@@ -27,7 +27,7 @@ fn starts(text: &[u8], at: usize, key: &[u8]) -> bool
     true
 }
 
-// The line at `at`.
+// The line at `at`. It has a `requires`, since a line begins where the one before it has ended, within the text.
 pub fn line(text: &[u8], at: usize, key: &[u8], most: u64, least: u64) -> Reading
     requires { ⌜ at ≤ length (now text) ⌝ }
     ensures { λ r. ⌜ Lined (now (text .entry)) (now (key .entry)) at most least r ⌝ }

@@ -1,12 +1,14 @@
--- From text to text: a good question's own text is answered with the page, printed. Assumes nothing.
+-- From text to text: a good question's own text is answered with the page, printed; and the contract leaves no choice.
+-- Assumes nothing.
 use mathlib.Core.Path.{_≡_, ap, _∙_}
 use mathlib.Core.List.{List, []}
-use Prim.Native.Nat.{ℕ}
-use lib.ListN.{length}
+use Prim.Native.Nat.{ℕ, _≤_}
+use lib.ListN.{length, take, drop}
 use Rattle.nearest.specs.declared.question.Question.{Question}
 use Rattle.reader.specs.Question.{questionText, Fitting}
 use Rattle.reader.proofs.Theorems.{read-back}
 use Rattle.printer.specs.Printed.{printed}
+use Rattle.printer.proofs.Theorems.{reply-unique}
 use Rattle.ask.specs.Reply.{refusal, pageOf, refused, replyOf}
 use Rattle.ask.specs.Room.{recordsIn}
 use Rattle.ask.proofs.Reading.{room-read}
@@ -26,3 +28,9 @@ module _ (map : List ℕ) (q : Question) (f : Fitting q) where
   pub says-refusal : (refusal map q (length emptyRoom) ≡ 0 → ⊥) → answerText map (questionText q) ≡ printed (refusal map q (length emptyRoom)) []
   unfolding recordsIn
   says-refusal ne = text-read map (questionText q) q (read-back q f) ∙ ap replyText (reply-refused map q emptyRoom ne)
+
+-- any two outcomes that meet the contract of `answer_text` coincide
+pub text-unique : (map input before a b : List ℕ) (r s : ℕ)
+    → (take r a ≡ answerText map input) × (r ≤ length a) × (drop r a ≡ drop r before)
+    → (take s b ≡ answerText map input) × (s ≤ length b) × (drop s b ≡ drop s before) → (r ≡ s) × (a ≡ b)
+text-unique map input before = reply-unique before (answerText map input)

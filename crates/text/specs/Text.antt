@@ -2,7 +2,6 @@
 use mathlib.Core.List.{List, []}
 use Prim.Native.Nat.{ℕ}
 use lib.ListN.{replicate}
-use Rattle.nearest.specs.declared.question.Question.{Question}
 use Rattle.reader.specs.declared.Asked.{Asked}
 use Rattle.reader.specs.declared.Asked.the-variants.{Read, Bad}
 use Rattle.reader.specs.Question.{questionIn}

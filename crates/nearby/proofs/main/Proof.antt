@@ -39,10 +39,10 @@ answer-text-requires : tie.Need-answer-text-requires
 answer-text-requires c κs = search needs
 
 array-share-prefix-out : tie.Need-array-share-prefix-out
-array-share-prefix-out c = c .answer-text .ensures .0
+array-share-prefix-out c = c .answer-text .ensures .1
 
 slice-aggregate-write-all : tie.Need-slice-aggregate-write-all
-slice-aggregate-write-all c = let a = c .before .answer-text in sym (length-take-le (a .result) _ (a .ensures .0))
+slice-aggregate-write-all c = let a = c .before .answer-text in sym (length-take-le (a .result) _ (a .ensures .1))
 
 write-all-requires : tie.Need-write-all-requires
 write-all-requires c κs = search needs

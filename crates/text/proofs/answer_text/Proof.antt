@@ -50,10 +50,11 @@ returns c =
     let s = c .before .before .before .before .before .before .before .before .before .before .before .before .before .before in
     let q = a .before .before .before .q .given in
     let said = c .print-reply .ensures in (
-      said .1,
       said .0
           ∙ rw (c .before .before .before .number .ensures, c .before .before .found .ensures) (ap replyText (a .ask .ensures))
           ∙ sym (text-read (now (s .args .map)) (now (s .args .input)) (q .0 .0) (sym (a .before .before .before .before .before .read-question .ensures) ∙ q .1)),
+      said .1,
+      said .2,
     )
 
 returns-2 : tie.Need-returns-2
@@ -62,7 +63,7 @@ returns-2 c =
     let r = c .before .before .before .before .before in
     let s = r .before .before .before in
     let said = c .print-reply2 .ensures in
-    (said .1, said .0 ∙ sym (text-bad (now (s .args .map)) (now (s .args .input)) (sym (r .read-question .ensures) ∙ c .before .before .before .enum-told .given .1)))
+    (said .0 ∙ sym (text-bad (now (s .args .map)) (now (s .args .input)) (sym (r .read-question .ensures) ∙ c .before .before .before .enum-told .given .1)), said .1, said .2)
 
 pub answer-text-spec : {M : Type 1} → statement M
 answer-text-spec =
