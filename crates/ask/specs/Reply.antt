@@ -69,6 +69,7 @@ given a room = record { number = answerNumber a; found = answerFound a; room = r
 abbrev pub refused : ℕ → List ℕ → Reply
 refused n room = record { number = n; found = 0; room = room }
 
+-- answered: the page's bays are found, and the room holds them
 abbrev pub answered : List NearBay → ℕ → List ℕ → Reply
 answered es k room = record { number = 0; found = length es; room = roomWith k es room }
 
