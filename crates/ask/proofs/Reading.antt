@@ -4,16 +4,19 @@ use native.Mathlib.Omega.{arith, pow-step}
 use mathlib.Core.Path.{_≡_, refl, sym, ap, ap₂, _∙_}
 use mathlib.Core.List.{List, [], _∷_, _++_, append-assoc, List·Memᴰ, List·Memᴰ·head, List·Memᴰ·tail}
 use lib.ListN.{length, take, drop, replicate}
+use Rattle.floor.specs.Bytes.{leAt}
+use Rattle.floor.proofs.Words.{le-drop}
 use Rattle.room.specs.Record.{leBytes, recordBytes}
 use Rattle.nearest.specs.declared.near_bay.NearBay.{NearBay}
-use Rattle.ask.specs.Room.{recordOf, recordsOf, roomWith, numberIn, recordIn, recordsIn}
+use Rattle.ask.specs.Room.{recordOf, recordsOf, roomWith, recordIn, recordsIn}
 
-number-back : (w n : ℕ) → n < 256 ^ w → numberIn (leBytes w n) ≡ n
-unfolding numberIn leBytes
-number-back zero n h = omega arith
-number-back (suc w) n h =
+number-back : (w n : ℕ) (rest : List ℕ) → n < 256 ^ w → leAt w (leBytes w n ++ rest) 0 ≡ n
+unfolding leAt leBytes
+number-back zero n rest h = omega arith
+number-back (suc w) n rest h =
     let p = pow-step 256 w in
-    omega (arith, number-back w (n / 256) (omega arith))
+    let later = le-drop w 1 0 (n % 256 ∷ leBytes w (n / 256) ++ rest) in
+    omega (arith, later, number-back w (n / 256) rest (omega arith))
 
 -- a bay whose numbers have room in a record's bytes
 pub record Small (r : NearBay) : Type 0 where
@@ -21,18 +24,13 @@ pub record Small (r : NearBay) : Type 0 where
   pub zone : r .zone < 256
   pub dsq : r .dsq .0 < 2 ^ 64
 
-one-byte : (z : ℕ) → numberIn (z ∷ []) ≡ z
-unfolding numberIn
-one-byte z = omega arith
-
 record-read : (r : NearBay) (rest : List ℕ) → Small r → recordIn (recordOf r ++ rest) ≡ r
-unfolding recordIn recordBytes leBytes
-record-read r rest s i =
-    record {
-      bay = number-back 4 (r .bay) (s .bay) i;
-      zone = one-byte (r .zone) i;
-      dsq = record { 0 = number-back 8 (r .dsq .0) (s .dsq) i };
-    }
+unfolding recordIn recordBytes leBytes leAt
+record-read r rest s =
+    let is-bay = number-back 4 (r .bay) (drop 4 (recordOf r ++ rest)) (s .bay) in
+    let is-zone : leAt 1 (recordOf r ++ rest) 4 ≡ r .zone = omega arith in
+    let is-dsq = le-drop 8 8 0 (recordOf r ++ rest) ∙ number-back 8 (r .dsq .0) rest (s .dsq) in
+    λ i. record { bay = is-bay i; zone = is-zone i; dsq = record { 0 = is-dsq i } }
 
 drop-record : (r : NearBay) (rest : List ℕ) → drop 16 (recordOf r ++ rest) ≡ rest
 unfolding recordBytes leBytes

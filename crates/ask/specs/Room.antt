@@ -1,8 +1,9 @@
 -- What the answer room holds after a page: the records from its start, zeros up to 16·k, and the rest as it was; and what
 -- is read out of it.
 use mathlib.Core.List.{List, [], _∷_, _++_}
-use Prim.Native.Nat.{ℕ, zero, suc, _+_, _*_, _-_}
-use lib.ListN.{length, take, drop, replicate}
+use Prim.Native.Nat.{ℕ, zero, suc, _*_, _-_}
+use lib.ListN.{length, drop, replicate}
+use Rattle.floor.specs.Bytes.{leAt}
 use Rattle.room.specs.Record.{recordBytes}
 use Rattle.nearest.specs.declared.near_bay.NearBay.{NearBay}
 
@@ -17,14 +18,9 @@ recordsOf (e ∷ es) = recordOf e ++ recordsOf es
 unfoldable pub roomWith : ℕ → List NearBay → List ℕ → List ℕ
 roomWith k es room = recordsOf es ++ replicate (16 * k - 16 * length es) 0 ++ drop (16 * k) room
 
--- what whoever asked reads out of the room: a number, lowest byte first; a record of 16 bytes; the first n records
-unfoldable pub numberIn : List ℕ → ℕ
-numberIn [] = 0
-numberIn (b ∷ bs) = b + 256 * numberIn bs
-
+-- what whoever asked reads out of the room: a record of 16 bytes; the first n records
 unfoldable pub recordIn : List ℕ → NearBay
-recordIn bytes =
-    record { bay = numberIn (take 4 bytes); zone = numberIn (take 1 (drop 4 bytes)); dsq = record { 0 = numberIn (take 8 (drop 8 bytes)) } }
+recordIn bytes = record { bay = leAt 4 bytes 0; zone = leAt 1 bytes 4; dsq = record { 0 = leAt 8 bytes 8 } }
 
 unfoldable pub recordsIn : ℕ → List ℕ → List NearBay
 recordsIn zero bytes = []

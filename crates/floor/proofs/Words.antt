@@ -1,11 +1,11 @@
 -- Little-endian numbers, one law over the width: how a number falls apart into its first byte and the rest, and how
 -- large it is; and that a node and a slot lie inside the map. Assumes nothing.
-use mathlib.Core.Path.{_≡_, sym}
-use mathlib.Core.List.{List}
+use mathlib.Core.Path.{_≡_, refl, sym}
+use mathlib.Core.List.{List, [], _∷_}
 use Prim.Native.Nat.{ℕ, zero, suc, _+_, _*_, _/_, _%_, _^_, _<_, _≤_}
-use native.Mathlib.Nat.{mul-assoc}
+use native.Mathlib.Nat.{mul-assoc, zero-add}
 use native.Mathlib.Omega.{arith, pow-step}
-use lib.ListN.{length, getD}
+use lib.ListN.{length, drop, getD}
 use mir.Syntax.{w8}
 use mir.Val.{Fits}
 use Rattle.floor.specs.Bytes.{leAt}
@@ -46,6 +46,21 @@ le-joined m (suc j) k at =
     let rest = leAt k m (at + 1 + j) in
     let p : 256 ^ suc j * rest ≡ 256 * (256 ^ j * rest) = rw (pow-step 256 j) (mul-assoc 256 (256 ^ j) rest) in
     rw (e, f) (omega (arith, le-joined m j k (at + 1), p))
+
+-- what is dropped moves the places
+at-drop : (a at : ℕ) (m : List ℕ) → getD (drop a m) at 0 ≡ getD m (a + at) 0
+at-drop zero at m = rw (zero-add at) refl
+at-drop (suc a) at [] = refl
+at-drop (suc a) at (b ∷ m) =
+    let e : suc a + at ≡ suc (a + at) = omega arith in
+    rw e (at-drop a at m)
+
+pub le-drop : (k a at : ℕ) (m : List ℕ) → leAt k (drop a m) at ≡ leAt k m (a + at)
+unfolding leAt
+le-drop zero a at m = refl
+le-drop (suc k) a at m =
+    let e : a + at + 1 ≡ a + (at + 1) = omega arith in
+    rw (e, at-drop a at m, le-drop k a (at + 1) m) refl
 
 module _ (m : List ℕ) (s : Shaped (viewOf m)) where
   pub header-inside : headerSize ≤ length m

@@ -11,7 +11,7 @@ use borrow.Author.Tests.{eqb-true, eqb-false, eq-eqb, ne-eqb, ltb-true, ltb-fals
 use Rattle.order.specs.Order.{Order, Apart}
 use Rattle.order.proofs.Place.{by-test}
 use Rattle.nearest.specs.declared.near_bay.NearBay.{NearBay}
-use Rattle.nearest.specs.Shown.{before, earlier, noBay}
+use Rattle.nearest.specs.Shown.{before, earlier}
 
 -- a comes strictly before b; it does not
 abbrev Comes : NearBay → NearBay → Type 0
@@ -83,7 +83,10 @@ farther-waits a b h = waits-false a b (inl h)
 
 -- every bay but a bay 0 comes after the start
 pub after-zero : (b : NearBay) → 0 < b .bay → before 0 0 (b .dsq .0) (b .bay) ≡ true
-after-zero b h = comes-true noBay b (by-test (eqb 0 (b .dsq .0)) (λ e. inr (eqb-true 0 (b .dsq .0) e, h)) (λ e. inl (other (eqb-false 0 (b .dsq .0) e))))
+after-zero b h = comes-true start b (by-test (eqb 0 (b .dsq .0)) (λ e. inr (eqb-true 0 (b .dsq .0) e, h)) (λ e. inl (other (eqb-false 0 (b .dsq .0) e))))
   where
+    start : NearBay
+    start = record { bay = 0; zone = 0; dsq = record { 0 = 0 } }
+
     other : (0 ≡ b .dsq .0 → ⊥) → 0 < b .dsq .0
     other ne = omega arith

@@ -20,10 +20,6 @@ before dsq number dsq' number' = cond (eqb dsq dsq') (ltb number number') (ltb d
 abbrev pub earlier : NearBay → NearBay → Bool
 earlier a b = before (a .dsq .0) (a .bay) (b .dsq .0) (b .bay)
 
--- a bay of zeros, as the start's mark: no bay that keeps the rules has number 0
-abbrev pub noBay : NearBay
-noBay = record { bay = 0; zone = 0; dsq = record { 0 = 0 } }
-
 -- the squared distance from a point to the box of slot j
 abbrev pub distanceTo : View → Point → ℕ → ℕ
 distanceTo v p j = minDist (axesOf p (boundsOf v j))

@@ -15,7 +15,6 @@ pub use badge::Badge;
 pub use best::Best;
 pub use key::bay_of;
 pub use near_bay::NearBay;
-pub use near_bay::is_before;
 pub use question::Mark;
 pub use question::Question;
 pub use search::nearest;

@@ -9,23 +9,23 @@ use Rattle.printer.proofs.read.record_at.Tie as tie
 mul-at : tie.Need-mul-at
 mul-at c = search needs
 
-word-at-requires : tie.Need-word-at-requires
-word-at-requires c κs = search needs
+u32-at-requires : tie.Need-u32-at-requires
+u32-at-requires c κs = search needs
 
-add-word-at : tie.Need-add-word-at
-add-word-at c = search needs
+add-u32-at : tie.Need-add-u32-at
+add-u32-at c = search needs
 
-word-at-requires-2 : tie.Need-word-at-requires-2
-word-at-requires-2 c κs = search needs
+u32-at-requires-2 : tie.Need-u32-at-requires-2
+u32-at-requires-2 c κs = search needs
 
 cast-low : tie.Need-cast-low
 cast-low c = search needs
 
-add-word-at-2 : tie.Need-add-word-at-2
-add-word-at-2 c = search needs
+add-u32-at-2 : tie.Need-add-u32-at-2
+add-u32-at-2 c = search needs
 
-word-at-requires-3 : tie.Need-word-at-requires-3
-word-at-requires-3 c κs = search needs
+u32-at-requires-3 : tie.Need-u32-at-requires-3
+u32-at-requires-3 c κs = search needs
 
 cast-high : tie.Need-cast-high
 cast-high c = search needs
@@ -45,19 +45,19 @@ shared-slice-read-t13 c = search needs
 returns : tie.Need-returns
 returns c =
     let s = c .before .before .before .before .before in
-    record-in (s .args .room .now) (16 * s .args .i) (s .pre) _ _ _ _ (c .before .before .before .word-at .ensures) refl (c .before .before .word-at2 .ensures) (c .before .word-at3 .ensures)
+    record-in (s .args .room .now) (16 * s .args .i) _ _ _ _ (c .before .before .before .u32-at .ensures) refl (c .before .before .u32-at2 .ensures) (c .before .u32-at3 .ensures)
 
 pub record-at-spec : {M : Type 1} → statement M
 record-at-spec =
     tie.close
     (tie.spec
     mul-at
-    word-at-requires
-    add-word-at
-    word-at-requires-2
+    u32-at-requires
+    add-u32-at
+    u32-at-requires-2
     cast-low
-    add-word-at-2
-    word-at-requires-3
+    add-u32-at-2
+    u32-at-requires-3
     cast-high
     mul-t10
     add-t11
