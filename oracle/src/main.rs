@@ -1,61 +1,65 @@
-//! Makes the stored cases of `crates/trial`: a batch of maps, good and damaged, and what document 01 says of each.
-//! Usage: oracle BATCH EXPECTED (both are written).
+//! An independent implementation of document 01, by definition, and seeded cases with what must come of them.
+//! Usage: oracle SEED CASES BATCH EXPECTED (the last two are written).
+mod batch;
+mod cases;
+mod damage;
+mod dice;
+#[cfg(test)]
+mod figures;
 mod floor;
 mod maps;
+mod measures;
+mod question;
+mod text;
 
-use std::fmt::Write as _;
-
-/// Writes commands for `crates/trial`: only what differs from the map before is sent.
-struct Batch {
-    bytes: Vec<u8>,
-    map: Vec<u8>,
-    len: usize,
-    expected: String,
-}
-
-impl Batch {
-    fn check(&mut self, map: &[u8]) {
-        let changed: Vec<usize> = (0..map.len()).filter(|&i| self.map[i] != map[i]).collect();
-        if changed.len() * 4 > map.len() {
-            self.bytes.push(b'B');
-            self.bytes.extend((map.len() as u16).to_le_bytes());
-            self.bytes.extend(map);
-            self.len = map.len();
-        } else {
-            for &i in &changed {
-                self.bytes.push(b'S');
-                self.bytes.extend((i as u16).to_le_bytes());
-                self.bytes.push(map[i]);
-            }
-        }
-        if self.len != map.len() {
-            self.bytes.push(b'L');
-            self.bytes.extend((map.len() as u16).to_le_bytes());
-            self.len = map.len();
-        }
-        self.map[..map.len()].copy_from_slice(map);
-        self.bytes.push(b'C');
-        let (rule, node) = floor::check(map);
-        writeln!(self.expected, "{rule} {node}").unwrap();
-    }
-}
+/// What 3,000 cases must hold, each at least so many times: a batch that lost a kind would try less than it says.
+const MUST_HOLD: [(&str, usize); 29] = [
+    ("map accepted, height 1", 10),
+    ("map accepted, height 2", 10),
+    ("map accepted, height 3", 10),
+    ("map accepted, height 4", 3),
+    ("map accepted, height 5", 3),
+    ("map accepted, height 6", 3),
+    ("rule 11 broken alone", 20),
+    ("rule 12 broken alone", 20),
+    ("rule 13 broken alone", 20),
+    ("rule 14 broken alone", 20),
+    ("rule 15 broken alone", 20),
+    ("rule 16 broken alone", 20),
+    ("rule 12 broken, and others", 10),
+    ("rule 13 broken, and others", 10),
+    ("rule 14 broken, and others", 10),
+    ("rule 15 broken, and others", 1),
+    ("answer 0, a full page", 100),
+    ("answer 0, a short page", 100),
+    ("answer 0, no bay", 50),
+    ("answer 1", 10),
+    ("answer 2", 10),
+    ("answer 3", 10),
+    ("answer 4", 20),
+    ("answer 5", 30),
+    ("text, answer 0", 50),
+    ("text, answer 6", 50),
+    ("measure, answer 1", 5),
+    ("measure, answer 2", 20),
+    ("whole runs of pages", 20),
+];
 
 fn main() {
     let args: Vec<String> = std::env::args().collect();
-    if args.len() != 3 {
-        eprintln!("usage: oracle BATCH EXPECTED");
+    let (Some(Ok(seed)), Some(Ok(cases)), 5) = (args.get(1).map(|s| s.parse()), args.get(2).map(|s| s.parse()), args.len()) else {
+        eprintln!("usage: oracle SEED CASES BATCH EXPECTED");
         std::process::exit(2);
+    };
+    let batch = cases::batch(seed, cases);
+    if std::env::var_os("ORACLE_TALLY").is_some() {
+        batch.tally.iter().for_each(|(what, times)| println!("{times:7} {what}"));
     }
-    let mut batch = Batch { bytes: vec![], map: vec![0; 65536], len: 0, expected: String::new() };
-    for map in maps::cases() {
-        batch.check(&map);
+    for (what, least) in MUST_HOLD.iter().filter(|_| cases >= 3000) {
+        let times = batch.tally.get(*what).copied().unwrap_or(0);
+        assert!(times >= *least, "only {times} times: {what}");
     }
-    let mut tally = std::collections::BTreeMap::new();
-    for line in batch.expected.lines() {
-        *tally.entry(line.split(' ').next().unwrap().to_string()).or_insert(0) += 1;
-    }
-    println!("{} cases, {} bytes, by answer {:?}", batch.expected.lines().count(), batch.bytes.len(), tally);
-    assert!(batch.bytes.len() <= 131_072, "the batch does not fit the trial's buffer");
-    std::fs::write(&args[1], &batch.bytes).unwrap();
-    std::fs::write(&args[2], &batch.expected).unwrap();
+    println!("oracle: {} cases of seed {seed}, {} bytes", batch.cases, batch.bytes().len());
+    std::fs::write(&args[3], batch.bytes()).unwrap();
+    std::fs::write(&args[4], &batch.expected).unwrap();
 }

@@ -1,209 +1,211 @@
-//! Maps that keep every rule, in many shapes, and maps that break one or several.
+//! Maps that keep every rule, in many shapes: bays in many arrangements, grouped, numbered and put into slots at random.
+use crate::dice::Dice;
+use crate::measures::{LIMIT, Sides};
 
-/// A small seeded generator (xorshift), so that the cases are the same every time.
-pub struct Dice(u64);
+pub const HEAD: usize = 8;
+pub const NODE: usize = 196;
+pub const SLOT: usize = 24;
+pub const MOST_NODES: usize = 256;
 
-impl Dice {
-    fn next(&mut self) -> u64 {
-        self.0 ^= self.0 << 13;
-        self.0 ^= self.0 >> 7;
-        self.0 ^= self.0 << 17;
-        self.0
-    }
-
-    fn below(&mut self, n: usize) -> usize {
-        (self.next() % n as u64) as usize
-    }
-
-    fn range(&mut self, low: i32, high: i32) -> i32 {
-        low + self.below((high - low + 1) as usize) as i32
-    }
-}
-
+/// A filled slot: its box, the bay or node that it names, and its zone.
 #[derive(Clone)]
-struct Entry {
-    sides: [i32; 4],
-    reference: u32,
-    zone: u8,
+pub struct Entry {
+    pub sides: Sides,
+    pub reference: u32,
+    pub zone: u8,
 }
 
-fn hull(entries: &[Entry]) -> [i32; 4] {
-    let side = |k: usize| entries.iter().map(move |e| e.sides[k]);
-    [side(0).min().unwrap(), side(1).max().unwrap(), side(2).min().unwrap(), side(3).max().unwrap()]
+/// Where the bays of a map lie.
+#[derive(Clone, Copy, Debug)]
+pub enum Style {
+    /// A few whole places, so that many distances are equal.
+    Lattice,
+    /// The same, without width.
+    Points,
+    /// All bays on one box.
+    OneSpot,
+    Hall,
+    /// Boxes of any size anywhere, one over the other.
+    Overlaps,
+    /// Sides at the limits and beside them.
+    Extremes,
 }
 
-/// Groups of `least` to 8, at random; what is left over joins the last group or is shared with it.
-fn grouped(dice: &mut Dice, entries: Vec<Entry>, least: usize) -> Vec<Vec<Entry>> {
-    if entries.len() <= 8 {
-        return vec![entries];
+pub const STYLES: [Style; 6] =
+    [Style::Lattice, Style::Points, Style::OneSpot, Style::Hall, Style::Overlaps, Style::Extremes];
+
+impl Style {
+    /// A place on an axis where something may well be.
+    pub fn place(self, dice: &Dice) -> i32 {
+        match self {
+            Style::Lattice | Style::Points => dice.range(-4, 4),
+            Style::OneSpot => dice.range(40, 60),
+            Style::Hall => dice.range(-40_000, 40_000),
+            Style::Overlaps => dice.range(-LIMIT, LIMIT),
+            Style::Extremes => dice.pick(&[-LIMIT, 1 - LIMIT, -1, 0, 1, LIMIT - 1, LIMIT]),
+        }
     }
-    let mut rest = entries;
-    let mut groups = vec![];
-    while rest.len() > 8 {
-        let most = (rest.len() - least).min(8);
-        let n = least + dice.below(most - least + 1);
-        groups.push(rest.drain(..n).collect());
+
+    fn side(self, dice: &Dice) -> (i32, i32) {
+        let (low, other) = (self.place(dice), self.place(dice));
+        match self {
+            Style::Lattice => (low, low + dice.range(0, 2)),
+            Style::Points => (low, low),
+            Style::OneSpot => (45, 50),
+            Style::Hall => (low, low + dice.range(0, 1500)),
+            Style::Overlaps | Style::Extremes => (low.min(other), low.max(other)),
+        }
     }
-    groups.push(rest);
-    groups
 }
 
-/// A map of so many bays: random groups, random numbers for the nodes, random slots.
-pub fn good(dice: &mut Dice, bays: usize, spread: i32) -> Vec<u8> {
-    let mut numbers: Vec<u32> = (0..bays as u32).map(|i| 1 + i * 7 + (dice.next() % 7) as u32).collect();
-    for i in (1..numbers.len()).rev() {
-        let j = dice.below(i + 1);
-        numbers.swap(i, j);
+/// Different bay numbers, from 1 to the greatest, close together or far apart.
+pub fn numbers(dice: &Dice, count: usize) -> Vec<u32> {
+    let stride = dice.pick(&[1, 1, 2, 7, 256, 2048, 65_536, 1 << 20]);
+    let greatest_first = u32::MAX - stride * count.saturating_sub(1) as u32;
+    let first = dice.pick(&[1, 1, 1 + (dice.next() % greatest_first as u64) as u32, greatest_first]);
+    let mut out: Vec<u32> = (0..count as u32).map(|i| first + stride * i).collect();
+    dice.shuffle(&mut out);
+    out
+}
+
+/// So many bays; each zone is one of `zones`.
+pub fn bays(dice: &Dice, count: usize, style: Style, zones: &[u8]) -> Vec<Entry> {
+    let entry = |dice: &Dice, reference| Entry { sides: [style.side(dice), style.side(dice)], reference, zone: dice.pick(zones) };
+    numbers(dice, count).into_iter().map(|bay| entry(dice, bay)).collect()
+}
+
+/// How few nodes a level may have below the root of a tree with so many levels above it.
+fn fewest(above: usize) -> usize {
+    if above == 0 { 1 } else { 2 * 3usize.pow(above as u32 - 1) }
+}
+
+/// How many nodes stand on each level, leaves first, for so many bays and levels; nothing where that cannot be.
+fn levels(dice: &Dice, bays: usize, height: usize) -> Option<Vec<usize>> {
+    if height == 1 {
+        return (bays <= 8).then_some(vec![1]);
     }
-    let mut entries: Vec<Entry> = numbers
-        .iter()
-        .map(|&bay| {
-            let (x, y) = (dice.range(-spread, spread), dice.range(-spread, spread));
-            let (w, h) = (dice.range(0, 3), dice.range(0, 2));
-            Entry { sides: [x, (x + w).min(1_000_000), y, (y + h).min(1_000_000)], reference: bay, zone: dice.below(32) as u8 }
-        })
-        .collect();
-    let mut nodes: Vec<(u8, Vec<Entry>)> = vec![];
-    let mut level = 0;
+    let (mut counts, mut below, mut left) = (vec![], bays, MOST_NODES);
+    for above in (0..height).rev() {
+        let rest: usize = (0..above).map(fewest).sum();
+        let low = below.div_ceil(8).max(fewest(above));
+        let high = if above == 0 { 1 } else { below / 3 };
+        let high = high.min(left.checked_sub(rest)?);
+        if low > high || (above == 0 && below < 2) {
+            return None;
+        }
+        below = if dice.one_in(3) { low } else { dice.between(low, high) };
+        counts.push(below);
+        left -= below;
+    }
+    Some(counts)
+}
+
+/// A tree's levels for so many bays, of a height at random among those that can be.
+fn any_levels(dice: &Dice, bays: usize) -> Vec<usize> {
+    for _ in 0..500 {
+        let height = dice.between(1, 6);
+        if let Some(counts) = levels(dice, bays, height) {
+            return counts;
+        }
+    }
+    panic!("no tree for {bays} bays")
+}
+
+/// A number of bays that a tree of this height can have, and the levels.
+pub fn levels_of_height(dice: &Dice, height: usize, most: usize) -> (usize, Vec<usize>) {
     loop {
-        let groups = grouped(dice, entries, 3);
-        let one = groups.len() == 1;
-        entries = vec![];
-        for group in groups {
-            if !group.is_empty() {
-                entries.push(Entry { sides: hull(&group), reference: nodes.len() as u32, zone: 0 });
-            }
-            nodes.push((level, group));
+        let bays = dice.below(most + 1);
+        if let Some(counts) = levels(dice, bays, height) {
+            return (bays, counts);
         }
-        if one {
-            break;
-        }
-        level += 1;
     }
+}
+
+/// `total` in so many parts of at most 8 and, where there is more than one part, at least `least`.
+fn parts(dice: &Dice, total: usize, count: usize, least: usize) -> Vec<usize> {
+    if count == 1 {
+        return vec![total];
+    }
+    let mut sizes = vec![least; count];
+    let mut open: Vec<usize> = (0..count).collect();
+    for _ in least * count..total {
+        let i = dice.below(open.len());
+        sizes[open[i]] += 1;
+        if sizes[open[i]] == 8 {
+            open.swap_remove(i);
+        }
+    }
+    sizes
+}
+
+pub fn hull(entries: &[Entry]) -> Sides {
+    [0, 1].map(|k| {
+        let low = entries.iter().map(|e| e.sides[k].0).min().unwrap_or(0);
+        (low, entries.iter().map(|e| e.sides[k].1).max().unwrap_or(0))
+    })
+}
+
+/// The levels' nodes from the leaves up; each node carries its level.
+fn nodes_of(dice: &Dice, bays: Vec<Entry>, counts: &[usize], least: usize) -> Vec<(u8, Vec<Entry>)> {
+    let mut nodes: Vec<(u8, Vec<Entry>)> = vec![];
+    let mut entries = bays;
+    for (level, &count) in counts.iter().enumerate() {
+        match dice.below(3) {
+            0 => dice.shuffle(&mut entries),
+            1 => entries.sort_by_key(|e| e.sides[0].0 as i64 + e.sides[0].1 as i64),
+            _ => entries.sort_by_key(|e| (e.sides[1].0 as i64 + e.sides[1].1 as i64, e.sides[0].0)),
+        }
+        let mut above = vec![];
+        for size in parts(dice, entries.len(), count, least) {
+            let group: Vec<Entry> = entries.drain(..size).collect();
+            above.push(Entry { sides: hull(&group), reference: nodes.len() as u32, zone: 0 });
+            nodes.push((level as u8, group));
+        }
+        entries = above;
+    }
+    nodes
+}
+
+/// The bytes of a slot.
+pub fn slot_bytes(e: &Entry) -> [u8; SLOT] {
+    let mut out = [0; SLOT];
+    for (k, side) in e.sides.iter().enumerate() {
+        out[8 * k..8 * k + 4].copy_from_slice(&side.0.to_le_bytes());
+        out[8 * k + 4..8 * k + 8].copy_from_slice(&side.1.to_le_bytes());
+    }
+    out[16..20].copy_from_slice(&e.reference.to_le_bytes());
+    out[20] = e.zone;
+    out
+}
+
+/// The bytes of a map of these levels: nodes numbered at random, slots filled at random.
+pub fn arranged_as(dice: &Dice, bays: Vec<Entry>, counts: &[usize], least: usize) -> Vec<u8> {
+    let nodes = nodes_of(dice, bays, counts, least);
     let n = nodes.len();
-    let mut place: Vec<usize> = (0..n).collect();
-    for i in (1..n).rev() {
-        let j = dice.below(i + 1);
-        place.swap(i, j);
-    }
-    let mut map = vec![0; 8 + 196 * n];
+    let mut number: Vec<usize> = (0..n).collect();
+    dice.shuffle(&mut number);
+    let mut map = vec![0; HEAD + NODE * n];
     map[0..2].copy_from_slice(&(n as u16).to_le_bytes());
-    map[2..4].copy_from_slice(&(place[n - 1] as u16).to_le_bytes());
-    map[4] = level + 1;
-    for (k, (level, entries)) in nodes.iter().enumerate() {
-        let at = 8 + 196 * place[k];
-        map[at] = *level;
+    map[2..4].copy_from_slice(&(number[n - 1] as u16).to_le_bytes());
+    map[4] = counts.len() as u8;
+    for (k, (level, entries)) in nodes.into_iter().enumerate() {
+        let at = HEAD + NODE * number[k];
+        map[at] = level;
         let mut free: Vec<usize> = (0..8).collect();
-        for e in entries {
-            let i = free.remove(dice.below(free.len()));
+        for mut e in entries {
+            let i = free.swap_remove(dice.below(free.len()));
             map[at + 1] |= 1 << i;
-            let s = at + 4 + 24 * i;
-            for (c, v) in e.sides.iter().enumerate() {
-                map[s + 4 * c..s + 4 * c + 4].copy_from_slice(&v.to_le_bytes());
+            if level > 0 {
+                e.reference = number[e.reference as usize] as u32;
             }
-            let reference = if *level == 0 { e.reference } else { place[e.reference as usize] as u32 };
-            map[s + 16..s + 20].copy_from_slice(&reference.to_le_bytes());
-            map[s + 20] = e.zone;
+            map[at + 4 + SLOT * i..][..SLOT].copy_from_slice(&slot_bytes(&e));
         }
     }
     map
 }
 
-fn with(map: &[u8], at: usize, bytes: &[u8]) -> Vec<u8> {
-    let mut m = map.to_vec();
-    m[at..at + bytes.len()].copy_from_slice(bytes);
-    m
-}
-
-/// Headers on both sides of each edge, and lengths that do not agree.
-fn headers(map: &[u8], out: &mut Vec<Vec<u8>>) {
-    let n = u16::from_le_bytes([map[0], map[1]]);
-    for count in [0, n - 1, n + 1, 256, 257, 65535] {
-        out.push(with(map, 0, &count.to_le_bytes()));
-    }
-    for root in [0, n / 2, n - 1, n, 256, 65535] {
-        out.push(with(map, 2, &root.to_le_bytes()));
-    }
-    for height in 0..=8 {
-        out.push(with(map, 4, &[height]));
-    }
-    for pad in 5..8 {
-        out.push(with(map, pad, &[1]));
-    }
-    out.push(map[..map.len() - 1].to_vec());
-    out.push([map, &[0]].concat());
-}
-
-/// Damage to one node: levels, occupancy, zero bytes, and a slot emptied properly.
-fn node_damage(map: &[u8], n: usize, dice: &mut Dice, out: &mut Vec<Vec<u8>>) {
-    let at = 8 + 196 * n;
-    for level in 0..7 {
-        out.push(with(map, at, &[level]));
-    }
-    for bit in 0..8 {
-        out.push(with(map, at + 1, &[map[at + 1] ^ 1 << bit]));
-    }
-    out.push(with(map, at + 2 + dice.below(2), &[1 << dice.below(8)]));
-    for i in 0..8 {
-        if map[at + 1] >> i & 1 == 1 {
-            let mut m = with(map, at + 4 + 24 * i, &[0; 24]);
-            m[at + 1] &= !(1 << i);
-            out.push(m);
-        }
-    }
-}
-
-/// Damage to one slot: references at the edges, zones, zero bytes, and every side one millimetre off and at the limits.
-fn slot_damage(map: &[u8], n: usize, i: usize, dice: &mut Dice, out: &mut Vec<Vec<u8>>) {
-    let at = 8 + 196 * n + 4 + 24 * i;
-    let count = u16::from_le_bytes([map[0], map[1]]) as u32;
-    let root = u16::from_le_bytes([map[2], map[3]]) as u32;
-    for reference in [0, n as u32, root, count - 1, count, 255, 256, u32::MAX] {
-        out.push(with(map, at + 16, &reference.to_le_bytes()));
-    }
-    let other = 8 + 196 * dice.below(count as usize) + 4 + 24 * dice.below(8);
-    out.push(with(map, at + 16, &map[other + 16..other + 20].to_vec()));
-    for zone in [0, 1, 31, 32, 255] {
-        out.push(with(map, at + 20, &[zone]));
-    }
-    out.push(with(map, at + 21 + dice.below(3), &[1 << dice.below(8)]));
-    for side in 0..4 {
-        let s = at + 4 * side;
-        let v = i32::from_le_bytes(map[s..s + 4].try_into().unwrap());
-        for w in [v - 1, v + 1, 1_000_000, 1_000_001, -1_000_000, -1_000_001, i32::MIN, i32::MAX] {
-            out.push(with(map, s, &w.to_le_bytes()));
-        }
-    }
-}
-
-/// Every case, good maps first.
-pub fn cases() -> Vec<Vec<u8>> {
-    let mut dice = Dice(0x9E37_79B9_7F4A_7C15);
-    let mut out = vec![vec![], vec![0; 7], vec![0; 8]];
-    for bays in [0, 1, 2, 3, 8, 9, 10, 17, 30, 60] {
-        let spread = [5, 1000, 1_000_000][dice.below(3)];
-        out.push(good(&mut dice, bays, spread));
-    }
-    for bays in [0, 4, 12, 70] {
-        let map = good(&mut dice, bays, if bays == 12 { 20 } else { 900_000 });
-        let count = u16::from_le_bytes([map[0], map[1]]) as usize;
-        headers(&map, &mut out);
-        for _ in 0..count.min(8) {
-            let n = dice.below(count);
-            node_damage(&map, n, &mut dice, &mut out);
-            for _ in 0..4 {
-                let i = dice.below(8);
-                slot_damage(&map, n, i, &mut dice, &mut out);
-            }
-        }
-        for _ in 0..150 {
-            let mut m = map.clone();
-            for _ in 0..1 + dice.below(3) {
-                let at = dice.below(m.len());
-                m[at] = [0, 1, 255, dice.below(256) as u8][dice.below(4)];
-            }
-            out.push(m);
-        }
-    }
-    out
+/// A map of these bays in any arrangement.
+pub fn arranged(dice: &Dice, bays: Vec<Entry>) -> Vec<u8> {
+    let counts = any_levels(dice, bays.len());
+    arranged_as(dice, bays, &counts, 3)
 }

@@ -29,7 +29,7 @@ pub fn u32_at(map: &[u8], at: usize) -> u32
 }
 
 // Bits as two's complement: what `as i32` would give, which has to lose nothing here.
-fn signed(u: u32) -> i32
+pub fn signed(u: u32) -> i32
     ensures { λ r. ⌜ r ≡ toZ w32 u ⌝ }
 {
     if u < 0x8000_0000 {

@@ -1,9 +1,10 @@
 // The bytes of a floor map as a view: the header's fields, a node's by its number, a slot's by its flat number
 // j = 8 · node + i. Nothing outside this crate knows an offset. The map check and the search read maps through it.
 // Its functions have a `requires`, since a field is read only where the header rule has shown that it is there.
-// `u32_at` reads four bytes of anything; records are read by it, too.
+// `u32_at` and `signed` are for any four bytes; records are read by the first, too.
 mod bytes;
 
+pub use bytes::signed;
 pub use bytes::u32_at;
 ghost use mathlib.Core.Path.{_≡_};
 ghost use Prim.Native.Nat.{_+_, _*_, _/_, _<_, _≤_};

@@ -1,102 +1,71 @@
-// Runs a batch of cases from standard input through the library and writes what each gives, for comparison with an
-// independent implementation (`oracle/`), which makes the batch and says what must come of it. Nothing calls it.
-//
-// A batch is a row of commands on one map that is kept: 'B' and a length and so many bytes, a new map; 'S' and a place
-// and a byte, one byte changed; 'L' and a length, the map cut or drawn out; 'C', the verdict written as two numbers.
-// Lengths and places are two bytes, little end first. Any other byte is passed over.
-ghost use mathlib.Core.Path.{_≡_};
-ghost use Prim.Native.Nat.{_+_, _<_, _≤_};
-ghost use lib.ListN.{length};
-use libc::STDOUT_FILENO;
+// Runs a batch of cases from standard input through the libraries and writes what each gives, for comparison with
+// independent implementations. Nothing calls it. `oracle/README.md` describes the batch and what is written.
+mod answer_room;
+mod batch;
+mod command;
+mod kept;
+mod maps;
+mod queries;
+mod say;
 
-// Where the next command is, and how long the map is.
-struct State {
-    at: usize,
-    len: usize,
-}
+ghost use mathlib.Core.Path.{_≡_};
+ghost use lib.ListN.{length};
+ghost use Rattle.trial.specs.Lengths.{Fit};
+use command::Command;
+use command::read_command;
+use command::read_count;
+use kept::Kept;
+use maps::load;
+use maps::map_of;
+use queries::answer_text;
+use queries::ask;
+use queries::check;
+use queries::measure;
+use queries::plain;
 
 fn main() {
-    let mut input = [0u8; 131072];
-    let n = io::read_full(0, &mut input);
-    let mut map = [0u8; 65536];
-    run(&input[..n], &mut map);
+    let count = read_count();
+    let mut maps = [0u8; 262144];
+    let mut room = [0u8; 4096];
+    run(count, &mut maps, &mut room);
 }
 
-fn run(input: &[u8], map: &mut [u8])
-    requires { ⌜ 65536 ≤ length (now map) ⌝ }
+// So many commands, or fewer where one ends the run.
+fn run(count: u32, maps: &mut [u8], room: &mut [u8])
+    requires { ⌜ (length (now maps) ≡ 262144) × (length (now room) ≡ 4096) ⌝ }
 {
-    let mut s = State { at: 0, len: 0 };
-    while s.at < input.len() {
-        s = step(input, s, map);
+    let mut kept = Kept::new();
+    for _ in 0..count {
+        kept = obey(read_command(), kept, maps, room);
+        if kept.over {
+            return;
+        }
     }
 }
 
-// One command.
-fn step(input: &[u8], s: State, map: &mut [u8]) -> State
-    requires { ⌜ (s .at < length (now input)) × ((s .len ≤ 65535) × (65536 ≤ length (now map))) ⌝ }
-    ensures { λ r. ⌜ (s .at < r .at) × ((r .at ≤ s .at + 65539) × (r .len ≤ 65535)) ⌝ }
+// One command. A kind that is none of these ends the run.
+fn obey(c: Command, kept: Kept, maps: &mut [u8], room: &mut [u8]) -> Kept
+    requires { ⌜ Fit (kept .lengths) × ((length (now maps) ≡ 262144) × (length (now room) ≡ 4096)) ⌝ }
+    ensures { λ r. ⌜ Fit (r .lengths) ⌝ }
 {
-    let at = s.at;
-    let len = s.len;
-    let command = input[at];
-    let number = short(input, at + 1);
-    match command {
-        b'B' => {
-            load(input, at + 3, number, map);
-            State {
-                at: at + 3 + number,
-                len: number,
-            }
-        }
-        b'S' => {
-            map[number] = byte(input, at + 3);
-            State { at: at + 4, len }
-        }
-        b'L' => State {
-            at: at + 3,
-            len: number,
-        },
+    let kind = c.kind;
+    match kind {
+        b'M' => load(c, kept, maps),
         b'C' => {
-            verdict(map, len);
-            State { at: at + 1, len }
+            check(map_of(maps, kept, c.map));
+            kept
         }
-        _ => State { at: at + 1, len },
+        b'K' => kept.with_mark(c.squared(), c.c),
+        b'A' => ask(c, kept, map_of(maps, kept, c.map), room),
+        b'T' => answer_text(c, kept, map_of(maps, kept, c.map)),
+        b'D' => {
+            measure(c);
+            kept
+        }
+        b'R' => {
+            plain(c);
+            kept
+        }
+        _ => kept.ended(),
     }
-}
-
-fn byte(input: &[u8], at: usize) -> u8 {
-    if at < input.len() { input[at] } else { 0 }
-}
-
-fn wide(b: u8) -> usize
-    ensures { λ r. ⌜ r < 256 ⌝ }
-{
-    b as usize
-}
-
-fn short(input: &[u8], at: usize) -> usize
-    requires { ⌜ at ≤ length (now input) ⌝ }
-    ensures { λ r. ⌜ r < 65536 ⌝ }
-{
-    wide(byte(input, at)) + 256 * wide(byte(input, at + 1))
-}
-
-// The next n bytes of input to the start of the map.
-fn load(input: &[u8], from: usize, n: usize, map: &mut [u8])
-    requires { ⌜ (n ≤ 65535) × ((from ≤ length (now input) + 3) × (65536 ≤ length (now map))) ⌝ }
-{
-    for i in 0..n {
-        map[i] = byte(input, from + i);
-    }
-}
-
-// The verdict on the first n bytes.
-fn verdict(map: &[u8], n: usize)
-    requires { ⌜ n ≤ length (now map) ⌝ }
-{
-    let v = rules::check(&map[..n]);
-    io::print_decimal(STDOUT_FILENO, v.number() as u64);
-    io::write_all(STDOUT_FILENO, b" ");
-    io::print_decimal(STDOUT_FILENO, v.node() as u64);
-    io::write_all(STDOUT_FILENO, b"\n");
 }

@@ -1,0 +1,3 @@
+-- The laws that the program's proofs lean on.
+pub mod Lengths
+pub mod Digits
