@@ -2,7 +2,9 @@
 use mathlib.Core.Path.{_≡_, refl, sym, ap, _∙_}
 use mathlib.Core.Bool.{true, false}
 use mathlib.Core.List.{List, [], _∷_, _++_}
-use Prim.Native.Nat.{ℕ, _<_}
+use lib.ListN.{getD}
+use Prim.Native.Nat.{ℕ, _-_}
+use Rattle.measure.specs.declared.SquaredMm.{SquaredMm}
 use Rattle.floor.specs.View.{View}
 use Rattle.order.specs.Order.{keepAll, only}
 use Rattle.order.proofs.Only.{only-nil, only-yes, only-no, only-append}
@@ -12,9 +14,9 @@ use Rattle.nearest.specs.declared.best.Best.{Best}
 use Rattle.nearest.specs.declared.question.Question.{Question}
 use Rattle.nearest.specs.Shown.{earlier}
 use Rattle.nearest.specs.Asked.{wantedBy}
-use Rattle.nearest.specs.Best.{bayOf, listOf, Carried}
+use Rattle.nearest.specs.Best.{bayOf, listOf, worstOf, listing, Carried}
 use Rattle.nearest.specs.Searched.{Searched}
-use Rattle.nearest.proofs.Offer.{Offered, offered-bays}
+use Rattle.nearest.proofs.Offer.{Offered, offered-bays, bounded}
 
 module _ (v : View) (q : Question) (b : Best) where
   pub searched-none : Carried v (q .k) b → Searched v q [] b b
@@ -40,3 +42,9 @@ module _ (v : View) (q : Question) (b : Best) where
             ∙ sym (keep-append earlier (q .k) (only (wantedBy q) es) (only (wantedBy q) fs) (listOf v b))
             ∙ ap (λ (l : List NearBay). keepAll earlier (q .k) l (listOf v b)) (sym (only-append (wantedBy q) es fs));
       }
+
+-- a list that was searched where it lies, with the distance of its kth beside it
+pub searched-in-place : {v : View} {q : Question} {es : List NearBay} (b : Best) {keys : List ℕ} {len : ℕ} {worst : SquaredMm}
+    → Searched v q es (listing (q .k) (b .keys) (b .len)) (listing (q .k) keys len) → worst .0 ≡ worstOf (q .k) len (getD keys (q .k - 1) 0)
+    → Searched v q es b (record { keys = keys; len = len; worst = worst })
+searched-in-place b h e = record { carried = bounded (h .carried) e; is = h .is }

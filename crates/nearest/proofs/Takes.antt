@@ -17,10 +17,10 @@ use Rattle.nearest.specs.declared.question.Question.{Question}
 use Rattle.nearest.specs.Shown.{nearBay}
 use Rattle.nearest.specs.Below.{slotBays, partBays}
 use Rattle.nearest.specs.Asked.{wantedBy}
-use Rattle.nearest.specs.Best.{keyOf, bayOf, sooner, Slots, Carried}
+use Rattle.nearest.specs.Best.{keyOf, bayOf, sooner, Slots, listing, Carried}
 use Rattle.nearest.specs.Searched.{Searched, takenOf}
 use Rattle.nearest.proofs.Keys.{bay-back}
-use Rattle.nearest.proofs.Offer.{Offered, listing, with-room, when-full, left-out}
+use Rattle.nearest.proofs.Offer.{Offered, with-room, when-full, left-out}
 use Rattle.nearest.proofs.Searching.{searched-none, searched-unwanted, searched-one}
 
 module _ (v : View) (distance : ℕ → ℕ) (q : Question) (j len last : ℕ) where

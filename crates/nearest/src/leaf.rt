@@ -1,21 +1,35 @@
-// The bays of a leaf, offered to the best list one by one.
+// The bays of a leaf, offered to the best list one by one, where it lies.
 ghost use mathlib.Core.Path.{_≡_};
+ghost use mathlib.Core.Bool.{true};
 ghost use Prim.Native.Nat.{_*_, _<_};
-ghost use Rattle.floor.specs.View.{viewOf};
-ghost use Rattle.nearest.specs.Shown.{distanceTo};
+ghost use Rattle.floor.specs.View.{viewOf, filled};
+ghost use Rattle.nearest.specs.Shown.{nearBay, distanceTo};
 ghost use Rattle.nearest.specs.Below.{nodeBays};
-ghost use Rattle.nearest.specs.Best.{slotIn, Carried};
+ghost use Rattle.nearest.specs.Best.{slotIn, listing, Carried};
 ghost use Rattle.nearest.specs.Ground.{Ground};
+ghost use Rattle.nearest.specs.Asked.{wantedBy};
 ghost use Rattle.nearest.specs.Searched.{Searched, takenOf};
-use crate::best::Best;
 use crate::best::sink;
-use crate::best::worst_of;
 use crate::key::is_sooner;
 use crate::key::key_at;
+use crate::near_bay::is_before;
 use crate::question::Question;
-use crate::question::wants;
-use crate::slots::near_bay_at;
 use floor::is_filled;
+use floor::slot_of;
+use measure::squared_gap;
+
+// Whether the question wants the bay in a filled slot. A bay that is hidden from the badge is not measured.
+fn wants(map: &[u8], q: Question, j: usize) -> bool
+    requires { ⌜ Ground (viewOf (now map)) (q .from) × (j < 8 * viewOf (now map) .count) × (filled (viewOf (now map)) j ≡ true) ⌝ }
+    ensures { λ r. ⌜ r ≡ wantedBy q (nearBay (viewOf (now (map .entry))) (distanceTo (viewOf (now (map .entry))) (q .from)) j) ⌝ }
+{
+    let slot = slot_of(map, j);
+    if q.badge.contains(slot.zone) {
+        let dsq = squared_gap(q.from, slot.bounds);
+        return is_before(q.mark.dsq, q.mark.bay, dsq, slot.reference);
+    }
+    false
+}
 
 // Whether the bay in a slot goes into a list of len bays, of which the kth, if there is one, is last.
 fn takes(map: &[u8], q: Question, j: usize, len: usize, last: u64) -> bool
@@ -23,8 +37,7 @@ fn takes(map: &[u8], q: Question, j: usize, len: usize, last: u64) -> bool
     ensures { λ r. ⌜ r ≡ takenOf (viewOf (now (map .entry))) (distanceTo (viewOf (now (map .entry))) (q .from)) q j len last ⌝ }
 {
     if is_filled(map, j) {
-        let e = near_bay_at(map, q.from, j);
-        if wants(q, e) {
+        if wants(map, q, j) {
             if len < q.k {
                 return true;
             }
@@ -35,29 +48,23 @@ fn takes(map: &[u8], q: Question, j: usize, len: usize, last: u64) -> bool
     false
 }
 
-// The best list after all slots of a leaf.
-pub fn leaf(map: &[u8], q: Question, node: usize, best: Best) -> Best
-    requires { ⌜ Ground (viewOf (now map)) (q .from) × (node < viewOf (now map) .count) × Carried (viewOf (now map)) (q .k) best ⌝ }
-    ensures { λ r. ⌜ Searched (viewOf (now (map .entry))) q (nodeBays (viewOf (now (map .entry))) (distanceTo (viewOf (now (map .entry))) (q .from)) 0 node) best r ⌝ }
+// Takes the slots of a leaf into a list of len bays, and answers how many it has then.
+pub fn leaf(map: &[u8], q: Question, node: usize, len: usize, keys: &mut [u64; 100]) -> usize
+    requires { ⌜ Ground (viewOf (now map)) (q .from) × (node < viewOf (now map) .count) × Carried (viewOf (now map)) (q .k) (listing (q .k) (now keys) len) ⌝ }
+    ensures { λ r. ⌜ Searched (viewOf (now (map .entry))) q (nodeBays (viewOf (now (map .entry))) (distanceTo (viewOf (now (map .entry))) (q .from)) 0 node) (listing (q .k) (now (keys .entry)) len) (listing (q .k) (now (keys .exit)) r) ⌝ }
 {
     let k = q.k;
-    let mut keys = best.keys;
-    let mut len = best.len;
+    let mut up = len;
     let mut i: usize = 0;
     while i < 8 {
         let j = 8 * node + i;
-        if takes(map, q, j, len, keys[k - 1]) {
-            if len < k {
-                len += 1;
+        if takes(map, q, j, up, keys[k - 1]) {
+            if up < k {
+                up += 1;
             }
-            sink(map, &mut keys, len - 1, key_at(map, q.from, j));
+            sink(map, keys, up - 1, key_at(map, q.from, j));
         }
         i += 1;
     }
-    let worst = worst_of(k, len, keys[k - 1]);
-    Best {
-        keys: keys,
-        len: len,
-        worst: worst,
-    }
+    up
 }

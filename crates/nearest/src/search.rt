@@ -4,11 +4,12 @@ ghost use Prim.Native.Nat.{_<_, _≤_};
 ghost use Rattle.floor.specs.View.{viewOf};
 ghost use Rattle.nearest.specs.Shown.{distanceTo};
 ghost use Rattle.nearest.specs.Below.{nodeBays};
-ghost use Rattle.nearest.specs.Best.{Carried};
+ghost use Rattle.nearest.specs.Best.{noBays, Carried};
 ghost use Rattle.nearest.specs.Ground.{Ground};
 ghost use Rattle.nearest.specs.Searched.{Searched, Found};
 use crate::best::Best;
 use crate::best::no_bays;
+use crate::best::worst_of;
 use crate::leaf::leaf;
 use crate::question::Question;
 use crate::reach::BEYOND;
@@ -31,13 +32,30 @@ pub fn search(map: &[u8], q: Question, node: usize, level: u8, best: Best) -> Be
     while opens(ds[j], b.worst) {
         let child = ref_of(map, 8 * node + j) as usize;
         if level == 1 {
-            b = leaf(map, q, child, b);
+            let len = b.len;
+            let up = leaf(map, q, child, len, &mut b.keys);
+            b.len = up;
+            let worst = worst_of(q.k, up, b.keys[q.k - 1]);
+            b.worst = worst;
         } else {
             b = search(map, q, child, level - 1, b);
         }
         ds[j] = SquaredMm(BEYOND);
         j = least(ds);
     }
+    b
+}
+
+// The best list of a map that is one leaf.
+fn one_leaf(map: &[u8], q: Question, root: usize) -> Best
+    requires { ⌜ Ground (viewOf (now map)) (q .from) × (root < viewOf (now map) .count) × (1 ≤ q .k) × (q .k ≤ 100) ⌝ }
+    ensures { λ r. ⌜ Searched (viewOf (now (map .entry))) q (nodeBays (viewOf (now (map .entry))) (distanceTo (viewOf (now (map .entry))) (q .from)) 0 root) noBays r ⌝ }
+{
+    let mut b = no_bays();
+    let up = leaf(map, q, root, 0, &mut b.keys);
+    b.len = up;
+    let worst = worst_of(q.k, up, b.keys[q.k - 1]);
+    b.worst = worst;
     b
 }
 
@@ -49,7 +67,7 @@ pub fn nearest(map: &[u8], q: Question) -> Best
     let root = root_of(map);
     let top = level_of(map, root);
     if top == 0 {
-        return leaf(map, q, root, no_bays());
+        return one_leaf(map, q, root);
     }
     search(map, q, root, top, no_bays())
 }

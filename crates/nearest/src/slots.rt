@@ -3,11 +3,9 @@ ghost use mathlib.Core.Path.{_≡_};
 ghost use mathlib.Core.Bool.{true};
 ghost use Prim.Native.Nat.{_*_, _<_};
 ghost use Rattle.floor.specs.View.{viewOf, filled};
-ghost use Rattle.nearest.specs.Shown.{nearBay, distanceTo};
+ghost use Rattle.nearest.specs.Shown.{distanceTo};
 ghost use Rattle.nearest.specs.Ground.{Ground};
-use crate::near_bay::NearBay;
 use floor::bounds_of;
-use floor::slot_of;
 use measure::Point;
 use measure::SquaredMm;
 use measure::squared_gap;
@@ -18,18 +16,4 @@ pub fn gap_to(map: &[u8], p: Point, j: usize) -> SquaredMm
     ensures { λ r. ⌜ r .0 ≡ distanceTo (viewOf (now (map .entry))) p j ⌝ }
 {
     squared_gap(p, bounds_of(map, j))
-}
-
-// A filled slot as a bay.
-pub fn near_bay_at(map: &[u8], p: Point, j: usize) -> NearBay
-    requires { ⌜ Ground (viewOf (now map)) p × (j < 8 * viewOf (now map) .count) × (filled (viewOf (now map)) j ≡ true) ⌝ }
-    ensures { λ r. ⌜ r ≡ nearBay (viewOf (now (map .entry))) (distanceTo (viewOf (now (map .entry))) p) j ⌝ }
-{
-    let slot = slot_of(map, j);
-    let dsq = squared_gap(p, slot.bounds);
-    NearBay {
-        bay: slot.reference,
-        zone: slot.zone,
-        dsq: dsq,
-    }
 }

@@ -11,15 +11,14 @@ use Rattle.floor.specs.View.{View, viewOf}
 use Rattle.numbers.proofs.Tests.{both}
 use Rattle.order.specs.Order.{place, gather}
 use Rattle.order.proofs.Only.{gather-more}
-use Rattle.nearest.specs.declared.best.Best.{Best}
 use Rattle.nearest.specs.declared.question.Question.{Question}
 use Rattle.nearest.specs.Shown.{distanceTo}
 use Rattle.nearest.specs.Below.{partBays}
-use Rattle.nearest.specs.Best.{sooner}
+use Rattle.nearest.specs.Best.{sooner, listing}
 use Rattle.nearest.specs.Searched.{Searched}
 use Rattle.nearest.proofs.Ready.{ground-shaped}
 use Rattle.nearest.proofs.Keys.{slot-back}
-use Rattle.nearest.proofs.Offer.{listing, listed, bounded, part-sorted}
+use Rattle.nearest.proofs.Offer.{part-sorted}
 use Rattle.nearest.proofs.Searching.{searched-none, searched-more}
 use Rattle.nearest.proofs.Takes.{slot-left, slot-taken}
 use Rattle.nearest.proofs.leaf.leaf.Statement.{statement}
@@ -27,24 +26,23 @@ use Rattle.nearest.proofs.leaf.leaf.Tie as tie
 
 -- the first i slots of a leaf are searched
 abbrev Done : View → Question → ℕ → List ℕ → ℕ → List ℕ → ℕ → ℕ → Type 0
-Done v q node keys₀ len₀ keys len i =
-    Searched v q (gather (partBays v (distanceTo v (q .from)) 0 node) i) (listing (q .k) keys₀ len₀) (listing (q .k) keys len)
+Done v q node keys₀ len keys up i =
+    Searched v q (gather (partBays v (distanceTo v (q .from)) 0 node) i) (listing (q .k) keys₀ len) (listing (q .k) keys up)
 
 abbrev Inv-loop : tie.InvT-loop
-Inv-loop map q node k keys₀ len₀ i₀ keys len i = (i ≤ 8) × (8 * node + 8 ≤ 2048) × Done (viewOf map) q node keys₀ len₀ keys len i
+Inv-loop map q node len keys₀ k up₀ i₀ keys up i = (i ≤ 8) × (8 * node + 8 ≤ 2048) × Done (viewOf map) q node keys₀ len keys up i
 
 abbrev μ-loop : tie.MeasureT-loop
-μ-loop map q node k keys₀ len₀ i₀ keys len i = 8 - i
+μ-loop map q node len keys₀ k up₀ i₀ keys up i = 8 - i
 
 loop-holds : tie.Need-loop-holds Inv-loop μ-loop
 unfolding gather
 loop-holds c =
-    let s = c .before .before in
+    let s = c .before in
     let v = viewOf (now (s .args .map)) in
     let few : v .count ≤ 256 = ground-shaped v (s .args .q .from) (s .pre .0) .few in
     let low : s .args .node < v .count = s .pre .1 in
-    let start = listed v (s .args .q .k) (s .args .best) (s .pre .2) in
-    (omega arith, omega arith, searched-none v (s .args .q) (listing (s .args .q .k) (s .args .best .keys) (s .args .best .len)) start)
+    (omega arith, omega arith, searched-none v (s .args .q) (listing (s .args .q .k) (now (s .args .keys)) (s .args .len)) (s .pre .2))
 
 mul-j : tie.Need-mul-j Inv-loop μ-loop
 mul-j c = omega arith
@@ -53,23 +51,23 @@ add-j : tie.Need-add-j Inv-loop μ-loop
 add-j c = omega arith
 
 sub-takes : tie.Need-sub-takes Inv-loop μ-loop
-sub-takes c = c .before .before .before .before .pre .2 .low
+sub-takes c = c .before .before .before .pre .2 .low
 
 mul-takes : tie.Need-mul-takes Inv-loop μ-loop
-mul-takes c = omega (arith, c .before .before .before .before .pre .2 .high)
+mul-takes c = omega (arith, c .before .before .before .pre .2 .high)
 
-array-read-takes : tie.Need-array-read-takes Inv-loop μ-loop
-array-read-takes c = let k = c .before .before .before .before .pre .2 in omega (arith, k .low, k .high)
+element-copy-out-takes : tie.Need-element-copy-out-takes Inv-loop μ-loop
+element-copy-out-takes c = let k = c .before .before .before .pre .2 in omega (arith, k .low, k .high, k .room)
 
 takes-requires : tie.Need-takes-requires Inv-loop μ-loop
 takes-requires c κs =
-    let l = c .before .loop in
+    let l = c .before .before .loop in
     let s = c .before .before .before .before in
     let low : s .args .node < viewOf (now (s .args .map)) .count = s .pre .1 in
     (s .pre .0, omega arith, l .inv .2 .carried .slots (s .args .q .k - 1))
 
-add-len : tie.Need-add-len Inv-loop μ-loop
-add-len c = omega arith
+add-up : tie.Need-add-up Inv-loop μ-loop
+add-up c = omega arith
 
 sub-sink : tie.Need-sub-sink Inv-loop μ-loop
 sub-sink c =
@@ -86,23 +84,23 @@ key-at-requires c κs =
 sink-requires : tie.Need-sink-requires Inv-loop μ-loop
 sink-requires c κs =
     let t = c .before .before .before .before in
-    let l = t .before .before .before .loop in
+    let l = t .before .before .before .before .loop in
     let s = t .before .before .before .before .before .before in
     let v = viewOf (now (s .args .map)) in
     let held = l .inv .2 .carried in
     let shaped = ground-shaped v (s .args .q .from) (s .pre .0) in
     let low : s .args .node < v .count = s .pre .1 in
     let j : ℕ = 8 * s .args .node + l .i in
-    let up : c .before .before .before .if2 .len - 1 ≤ l .len =
+    let up : c .before .before .before .if2 .up - 1 ≤ l .up =
     ⊎-elim (λ w. omega (arith, w .1)) (λ w. omega (arith, w .1)) (c .before .before .before .if2 .came) in
-    let small : c .before .before .before .if2 .len - 1 < 100 =
+    let small : c .before .before .before .if2 .up - 1 < 100 =
     ⊎-elim (λ w. omega (arith, held .high, w .0 .taken, w .1)) (λ w. omega (arith, held .low, held .high, held .fits, w .1)) (c .before .before .before .if2 .came) in (
       shaped,
       small,
       held .room,
       rw (c .key-at .ensures, slot-back (distanceTo v (s .args .q .from)) j (omega (arith, shaped .few))) (omega arith),
       held .slots,
-      part-sorted v (c .before .before .before .if2 .len - 1) (l .len) (l .keys) up (held .sorted),
+      part-sorted v (c .before .before .before .if2 .up - 1) (l .up) (l .keys) up (held .sorted),
     )
 
 add-i : tie.Need-add-i Inv-loop μ-loop
@@ -113,47 +111,34 @@ loop-less c = omega arith
 
 loop-again : tie.Need-loop-again Inv-loop μ-loop
 loop-again c =
-    let l = c .before .before .before .loop in
+    let l = c .before .before .before .before .loop in
     let s = c .before .before .before .before .before .before in
     let q = s .args .q in
     let v = viewOf (now (s .args .map)) in
     let d = distanceTo v (q .from) in
     let part = partBays v d 0 (s .args .node) in
     let held = l .inv .2 .carried in
-    let turn : Searched v q (part (l .i)) (listing (q .k) (l .keys) (l .len)) (listing (q .k) (c .if1 .keys) (c .if1 .len)) =
+    let turn : Searched v q (part (l .i)) (listing (q .k) (l .keys) (l .up)) (listing (q .k) (c .if1 .keys) (c .if1 .up)) =
     ⊎-elim
     (λ w. rw (w .6, w .7)
-    (slot-taken v d q (s .args .node) (l .i) (omega arith) (l .keys) (l .len) held _ (w .1 .len)
+    (slot-taken v d q (s .args .node) (l .i) (omega arith) (l .keys) (l .up) held _ (w .1 .up)
     (sym (c .before .takes .ensures) ∙ w .0 .taken) (w .5 .ensures .0) (w .5 .ensures .1)
     (⊎-elim (λ g. inl (g .0 .taken, g .1)) (λ g. inr (g .0 .left, g .1)) (w .1 .came))
-    (w .5 .ensures .2 ∙ ap (λ key. place (sooner v) key (take (w .1 .len - 1) (l .keys))) (w .4 .ensures))))
+    (w .5 .ensures .2 ∙ ap (λ key. place (sooner v) key (take (w .1 .up - 1) (l .keys))) (w .4 .ensures))))
     (λ w. rw (w .1, w .2)
-    (slot-left v d q (s .args .node) (l .i) (omega arith) (l .keys) (l .len) held (sym (c .before .takes .ensures) ∙ w .0 .left)))
+    (slot-left v d q (s .args .node) (l .i) (omega arith) (l .keys) (l .up) held (sym (c .before .takes .ensures) ∙ w .0 .left)))
     (c .if1 .came) in (
       omega arith,
       l .inv .1,
       rw (gather-more part (l .i))
-          (searched-more v q (listing (q .k) (s .args .best .keys) (s .args .best .len)) (gather part (l .i)) (part (l .i)) (listing (q .k) (l .keys) (l .len)) (listing (q .k) (c .if1 .keys) (c .if1 .len)) (l .inv .2) turn),
+          (searched-more v q (listing (q .k) (now (s .args .keys)) (s .args .len)) (gather part (l .i)) (part (l .i)) (listing (q .k) (l .keys) (l .up)) (listing (q .k) (c .if1 .keys) (c .if1 .up)) (l .inv .2) turn),
     )
-
-sub-worst-of : tie.Need-sub-worst-of Inv-loop μ-loop
-sub-worst-of c = c .before .before .before .before .pre .2 .low
-
-mul-worst-of : tie.Need-mul-worst-of Inv-loop μ-loop
-mul-worst-of c = omega (arith, c .before .before .before .before .pre .2 .high)
-
-array-read-worst-of : tie.Need-array-read-worst-of Inv-loop μ-loop
-array-read-worst-of c = let k = c .before .before .before .before .pre .2 in omega (arith, k .low, k .high)
-
-worst-of-requires : tie.Need-worst-of-requires Inv-loop μ-loop
-worst-of-requires c κs = search needs
 
 returns : tie.Need-returns Inv-loop μ-loop
 returns c =
-    let l = c .before .before .loop in
+    let l = c .before .loop in
     let e : l .i ≡ 8 = omega arith in
-    let done = rw e at (l .inv .2) in
-    record { carried = bounded (done .carried) (c .worst-of .ensures); is = done .is }
+    rw e at (l .inv .2)
 
 pub leaf-spec : {M : Type 1} → statement M
 leaf-spec =
@@ -166,17 +151,13 @@ leaf-spec =
     add-j
     sub-takes
     mul-takes
-    array-read-takes
+    element-copy-out-takes
     takes-requires
-    add-len
+    add-up
     sub-sink
     key-at-requires
     sink-requires
     add-i
     loop-less
     loop-again
-    sub-worst-of
-    mul-worst-of
-    array-read-worst-of
-    worst-of-requires
     returns)

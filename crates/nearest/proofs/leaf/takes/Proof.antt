@@ -17,33 +17,28 @@ use Rattle.nearest.proofs.leaf.takes.Tie as tie
 is-filled-requires : tie.Need-is-filled-requires
 is-filled-requires c κs = let s = c .before in (ground-shaped (viewOf (now (s .args .map))) (s .args .q .from) (s .pre .0), s .pre .1)
 
-near-bay-at-requires : tie.Need-near-bay-at-requires
-near-bay-at-requires c κs = let s = c .before .before .before in (s .pre .0, s .pre .1, sym (c .before .is-filled .ensures) ∙ c .if1 .taken)
-
 wants-requires : tie.Need-wants-requires
-wants-requires c κs = search needs
+wants-requires c κs = let s = c .before .before .before in (s .pre .0, s .pre .1, sym (c .before .is-filled .ensures) ∙ c .if1 .taken)
 
 returns : tie.Need-returns
 returns c =
     let w = c .before .before in
-    let t = w .before .before .before in
+    let t = w .before .before in
     let s = t .before .before .before in
     let q = s .args .q in
     let v = viewOf (now (s .args .map)) in
     takes-room v (distanceTo v (q .from)) q (s .args .j) (s .args .len) (s .args .last)
-    (sym (t .before .is-filled .ensures) ∙ t .if1 .taken)
-    (sym (ap (wantedBy q) (w .before .before .near-bay-at .ensures)) ∙ sym (w .before .wants .ensures) ∙ w .if2 .taken)
-    (c .if3 .taken)
+    (sym (t .before .is-filled .ensures) ∙ t .if1 .taken) (sym (w .before .wants .ensures) ∙ w .if2 .taken) (c .if3 .taken)
 
 key-at-requires : tie.Need-key-at-requires
 key-at-requires c κs =
-    let t = c .before .before .before .before .before in
+    let t = c .before .before .before .before in
     let s = t .before .before .before in
     (s .pre .0, s .pre .1, sym (t .before .is-filled .ensures) ∙ t .if1 .taken)
 
 is-sooner-requires : tie.Need-is-sooner-requires
 is-sooner-requires c κs =
-    let s = c .before .before .before .before .before .before .before .before .before in
+    let s = c .before .before .before .before .before .before .before .before in
     let q = s .args .q in
     let v = viewOf (now (s .args .map)) in
     let shaped = ground-shaped v (q .from) (s .pre .0) in
@@ -53,25 +48,24 @@ returns-2 : tie.Need-returns-2
 returns-2 c =
     let u = c .before .before in
     let w = u .before .before in
-    let t = w .before .before .before in
+    let t = w .before .before in
     let s = t .before .before .before in
     let q = s .args .q in
     let v = viewOf (now (s .args .map)) in
     takes-before v (distanceTo v (q .from)) q (s .args .j) (s .args .len) (s .args .last)
     (sym (t .before .is-filled .ensures) ∙ t .if1 .taken)
-    (sym (ap (wantedBy q) (w .before .before .near-bay-at .ensures)) ∙ sym (w .before .wants .ensures) ∙ w .if2 .taken)
+    (sym (w .before .wants .ensures) ∙ w .if2 .taken)
     (u .if3 .left)
     (c .is-sooner .ensures ∙ ap (λ key. sooner v key (s .args .last)) (c .before .key-at .ensures))
 
 returns-3 : tie.Need-returns-3
 returns-3 c =
-    let t = c .before .before .before in
+    let t = c .before .before in
     let s = t .before .before .before in
     let q = s .args .q in
     let v = viewOf (now (s .args .map)) in
     takes-unwanted v (distanceTo v (q .from)) q (s .args .j) (s .args .len) (s .args .last)
-    (sym (t .before .is-filled .ensures) ∙ t .if1 .taken)
-    (sym (ap (wantedBy q) (c .before .before .near-bay-at .ensures)) ∙ sym (c .before .wants .ensures) ∙ c .if2 .left)
+    (sym (t .before .is-filled .ensures) ∙ t .if1 .taken) (sym (c .before .wants .ensures) ∙ c .if2 .left)
 
 returns-4 : tie.Need-returns-4
 returns-4 c =
@@ -85,7 +79,6 @@ takes-spec =
     tie.close
     (tie.spec
     is-filled-requires
-    near-bay-at-requires
     wants-requires
     returns
     key-at-requires

@@ -26,6 +26,8 @@ use Rattle.nearest.specs.Below.{partBays}
 use Rattle.nearest.specs.Reach.{none, beyond, opened}
 use Rattle.nearest.specs.Searched.{Searched}
 use Rattle.nearest.proofs.Ready.{ground-shaped}
+use Rattle.nearest.proofs.Offer.{listed}
+use Rattle.nearest.proofs.Searching.{searched-in-place}
 use Rattle.nearest.proofs.Keys.{gap-small}
 use Rattle.nearest.proofs.Page.{mindist-grows}
 use Rattle.nearest.proofs.Visits.{openAt, fewer, Marks, marks-start, marks-next, child-there, child-level, part-down, parts-none, parts-one, parts-stop}
@@ -33,6 +35,7 @@ use Rattle.nearest.proofs.search.search.Reads as search′
 use Rattle.nearest.proofs.search.search.Kinds as search-kinds
 use Rattle.nearest.proofs.search.+search.Lts-search as search-lts
 use Rattle.floor.proofs.ref_of.Reads as ref-of-reads
+use Rattle.nearest.proofs.best.worst_of.Reads as worst-of-reads
 use Rattle.nearest.proofs.leaf.leaf.Reads as leaf-reads
 use Rattle.nearest.proofs.reach.gaps.Reads as gaps-reads
 use Rattle.nearest.proofs.reach.least.Reads as least-reads
@@ -62,6 +65,8 @@ claims t = (
   ref-of-reads.Learnt,
   leaf-reads.Asked,
   leaf-reads.Learnt,
+  worst-of-reads.Asked,
+  worst-of-reads.Learnt,
   search-below t,
   search′.Post,
 )
@@ -123,10 +128,10 @@ add-ref-of t c = omega arith
 
 ref-of-requires : (t : ℕ) → search-lts.Need-ref-of-requires (claims t) (search-at t) search′.Post Inv-loop μ-loop
 ref-of-requires t c κs =
-    let s = c .before .before .before .before .before .before .before in
+    let s = c .before .before .before .before .before .before .before .before in
     let v = viewOf (now (s .args .map)) in
     let low : s .args .node < v .count = s .pre .1 .1 in
-    let j : c .before .before .before .loop .j < 8 = c .before .before .before .loop .inv .1 in
+    let j : c .before .before .before .before .loop .j < 8 = c .before .before .before .before .loop .inv .1 in
     (ground-shaped v (s .args .q .from) (s .pre .1 .0), omega arith)
 
 cast-child : (t : ℕ) → search-lts.Need-cast-child (claims t) (search-at t) search′.Post Inv-loop μ-loop
@@ -134,13 +139,25 @@ cast-child t c = search needs
 
 leaf-requires : (t : ℕ) → search-lts.Need-leaf-requires (claims t) (search-at t) search′.Post Inv-loop μ-loop
 leaf-requires t c κs =
-    let th = c .before .before in
-    let l = th .before .before .before .loop in
-    let s = th .before .before .before .before .before .before .before in
+    let th = c .before .before .before in
+    let l = th .before .before .before .before .loop in
+    let s = th .before .before .before .before .before .before .before .before in
     let v = viewOf (now (s .args .map)) in
     let f = l .inv .4 (l .j) (l .inv .1) (opened-there (getD (l .ds) (l .j) none .0) (l .b .worst .0) (th .before .opens .ensures) (th .if1 .taken)) .0 in
     let there = child-there v (s .pre .1 .0 .keeps) (distanceTo v (s .args .q .from)) (s .args .level) (s .args .node) (l .j) (s .pre .1 .1) (s .pre .1 .2) (s .pre .1 .3) (l .inv .1) f in
-    (s .pre .1 .0, rw (c .before .ref-of .ensures) there, l .inv .5 .carried)
+    (s .pre .1 .0, rw (c .before .before .ref-of .ensures) there, listed v (s .args .q .k) (l .b) (l .inv .5 .carried))
+
+sub-worst-of : (t : ℕ) → search-lts.Need-sub-worst-of (claims t) (search-at t) search′.Post Inv-loop μ-loop
+sub-worst-of t c = c .before .leaf .ensures .carried .low
+
+mul-worst-of : (t : ℕ) → search-lts.Need-mul-worst-of (claims t) (search-at t) search′.Post Inv-loop μ-loop
+mul-worst-of t c = omega (arith, c .before .leaf .ensures .carried .high)
+
+element-copy-out-worst-of : (t : ℕ) → search-lts.Need-element-copy-out-worst-of (claims t) (search-at t) search′.Post Inv-loop μ-loop
+element-copy-out-worst-of t c = let k = c .before .leaf .ensures .carried in omega (arith, k .low, k .high, k .room)
+
+worst-of-requires : (t : ℕ) → search-lts.Need-worst-of-requires (claims t) (search-at t) search′.Post Inv-loop μ-loop
+worst-of-requires t c κs = search needs
 
 sub-search : (t : ℕ) → search-lts.Need-sub-search (claims t) (search-at t) search′.Post Inv-loop μ-loop
 sub-search t c = omega arith
@@ -148,8 +165,8 @@ sub-search t c = omega arith
 search-requires : (t : ℕ) → search-lts.Need-search-requires (claims t) (search-at t) search′.Post Inv-loop μ-loop
 search-requires t c κs =
     let th = c .before .before in
-    let l = th .before .before .before .loop in
-    let s = th .before .before .before .before .before .before .before in
+    let l = th .before .before .before .before .loop in
+    let s = th .before .before .before .before .before .before .before .before in
     let v = viewOf (now (s .args .map)) in
     let keeps = s .pre .1 .0 .keeps in
     let d = distanceTo v (s .args .q .from) in
@@ -173,15 +190,15 @@ least-requires-2 t c κs = search needs
 loop-less : (t : ℕ) → search-lts.Need-loop-less (claims t) (search-at t) search′.Post Inv-loop μ-loop
 loop-less t c =
     let th = c .before .before .before in
-    let l = th .before .before .before .loop in
+    let l = th .before .before .before .before .loop in
     fewer (l .ds) (l .inv .0) (l .j) (l .inv .1)
     (ltb-true (getD (l .ds) (l .j) none .0) beyond (opened-there (getD (l .ds) (l .j) none .0) (l .b .worst .0) (th .before .opens .ensures) (th .if1 .taken)))
 
 loop-again : (t : ℕ) → search-lts.Need-loop-again (claims t) (search-at t) search′.Post Inv-loop μ-loop
 loop-again t c =
     let th = c .before .before .before in
-    let l = th .before .before .before .loop in
-    let s = th .before .before .before .before .before .before .before in
+    let l = th .before .before .before .before .loop in
+    let s = th .before .before .before .before .before .before .before .before in
     let q = s .args .q in
     let v = viewOf (now (s .args .map)) in
     let keeps = s .pre .1 .0 .keeps in
@@ -195,7 +212,8 @@ loop-again t c =
     let child : c .before .before .ref-of .result ≡ v .ref (8 * node + j) = c .before .before .ref-of .ensures in
     let step : Searched v q (partBays v d level node j) (l .b) (c .before .if2 .b) =
     ⊎-elim
-    (λ w. let one : level - 1 ≡ 0 = omega (arith, w .0 .taken) in rw (w .2, down, ← child, one) (w .1 .ensures))
+    (λ w. let one : level - 1 ≡ 0 = omega (arith, w .0 .taken) in
+    rw (w .6, down, ← child, one) (searched-in-place (l .b) (w .2 .ensures) (w .5 .ensures)))
     (λ w. rw (w .2, down, ← child) (w .1 .ensures))
     (c .before .if2 .came) in (
       simp length-set (l .inv .0),
@@ -208,8 +226,8 @@ loop-again t c =
 
 returns : (t : ℕ) → search-lts.Need-returns (claims t) (search-at t) search′.Post Inv-loop μ-loop
 returns t c =
-    let l = c .before .before .before .loop in
-    let s = c .before .before .before .before .before .before .before in
+    let l = c .before .before .before .before .loop in
+    let s = c .before .before .before .before .before .before .before .before in
     let q = s .args .q in
     let v = viewOf (now (s .args .map)) in
     let keeps = s .pre .1 .0 .keeps in
@@ -233,6 +251,10 @@ pub +search-spec : {M : Type 1} → statement M
     (ref-of-requires t)
     (cast-child t)
     (leaf-requires t)
+    (sub-worst-of t)
+    (mul-worst-of t)
+    (element-copy-out-worst-of t)
+    (worst-of-requires t)
     (sub-search t)
     (search-requires t)
     (mul-ds t)

@@ -1,10 +1,11 @@
 -- `nearest::search::nearest` meets its contract: a root that is a leaf, or a search from the root. Assumes nothing.
 use Prim.Native.Nat.{ℕ, _<_}
 use native.Mathlib.Omega.{arith}
-use mathlib.Core.Path.{_≡_, sym, _∙_}
+use mathlib.Core.Path.{_≡_, refl, sym, _∙_}
 use denote.Ref.{now}
 use borrow.Author.Needs.{needs}
 use Rattle.floor.specs.View.{viewOf}
+use Rattle.nearest.specs.Best.{noBays}
 use Rattle.nearest.proofs.Ready.{ground-shaped}
 use Rattle.nearest.proofs.Start.{no-bays-carried, root-found}
 use Rattle.nearest.proofs.search.nearest.Statement.{statement}
@@ -19,25 +20,21 @@ level-of-requires c κs =
     let shaped = ground-shaped (viewOf (now (s .args .map))) (s .args .q .from) (s .pre .0) in
     (shaped, rw (c .root-of .ensures) (shaped .rooted))
 
-no-bays-requires : tie.Need-no-bays-requires
-no-bays-requires c κs = search needs
-
-leaf-requires : tie.Need-leaf-requires
-leaf-requires c κs =
-    let s = c .before .before .before .before .before in
-    let v = viewOf (now (s .args .map)) in
-    let shaped = ground-shaped v (s .args .q .from) (s .pre .0) in
-    (s .pre .0, rw (c .before .before .before .root-of .ensures) (shaped .rooted), rw (c .no-bays .ensures) (no-bays-carried v (s .args .q .k) shaped (s .pre .1) (s .pre .2)))
+one-leaf-requires : tie.Need-one-leaf-requires
+one-leaf-requires c κs =
+    let s = c .before .before .before .before in
+    let shaped = ground-shaped (viewOf (now (s .args .map))) (s .args .q .from) (s .pre .0) in
+    (s .pre .0, rw (c .before .before .root-of .ensures) (shaped .rooted), s .pre .1, s .pre .2)
 
 returns : tie.Need-returns
 returns c =
-    let r = c .before .before .before .before in
-    let s = c .before .before .before .before .before .before in
-    root-found (viewOf (now (s .args .map))) (s .args .q) (r .root-of .result) 0 (c .before .no-bays .result) (c .leaf .result) (s .pre .0 .keeps)
-    (r .root-of .ensures) (sym (c .before .before .if1 .taken) ∙ c .before .before .before .level-of .ensures) (c .before .no-bays .ensures) (c .leaf .ensures)
+    let r = c .before .before .before in
+    let s = r .before .before in
+    root-found (viewOf (now (s .args .map))) (s .args .q) (r .root-of .result) 0 noBays (c .one-leaf .result) (s .pre .0 .keeps)
+    (r .root-of .ensures) (sym (c .before .if1 .taken) ∙ c .before .before .level-of .ensures) refl (c .one-leaf .ensures)
 
-no-bays-requires-2 : tie.Need-no-bays-requires-2
-no-bays-requires-2 c κs = search needs
+no-bays-requires : tie.Need-no-bays-requires
+no-bays-requires c κs = search needs
 
 search-requires : tie.Need-search-requires
 search-requires c κs =
@@ -49,15 +46,15 @@ search-requires c κs =
       rw (c .before .before .before .root-of .ensures) (shaped .rooted),
       sym (c .before .before .level-of .ensures),
       omega arith,
-      rw (c .no-bays2 .ensures) (no-bays-carried v (s .args .q .k) shaped (s .pre .1) (s .pre .2)),
+      rw (c .no-bays .ensures) (no-bays-carried v (s .args .q .k) shaped (s .pre .1) (s .pre .2)),
     )
 
 returns-2 : tie.Need-returns-2
 returns-2 c =
     let r = c .before .before .before .before in
     let s = c .before .before .before .before .before .before in
-    root-found (viewOf (now (s .args .map))) (s .args .q) (r .root-of .result) (c .before .before .before .level-of .result) (c .before .no-bays2 .result) (c .search .result) (s .pre .0 .keeps)
-    (r .root-of .ensures) (c .before .before .before .level-of .ensures) (c .before .no-bays2 .ensures) (c .search .ensures)
+    root-found (viewOf (now (s .args .map))) (s .args .q) (r .root-of .result) (c .before .before .before .level-of .result) (c .before .no-bays .result) (c .search .result) (s .pre .0 .keeps)
+    (r .root-of .ensures) (c .before .before .before .level-of .ensures) (c .before .no-bays .ensures) (c .search .ensures)
 
 pub nearest-spec : {M : Type 1} → statement M
 nearest-spec =
@@ -65,9 +62,8 @@ nearest-spec =
     (tie.spec
     root-of-requires
     level-of-requires
-    no-bays-requires
-    leaf-requires
+    one-leaf-requires
     returns
-    no-bays-requires-2
+    no-bays-requires
     search-requires
     returns-2)
