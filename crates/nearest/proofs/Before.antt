@@ -81,6 +81,13 @@ told-apart a b h = by-test (earlier a b) inl (λ e. inr (comes-true b a (other (
 pub farther-waits : (a b : NearBay) → b .dsq .0 < a .dsq .0 → earlier a b ≡ false
 farther-waits a b h = waits-false a b (inl h)
 
+-- what is strictly nearer comes before, and what does not come before is no nearer
+pub nearer-comes : (a b : NearBay) → a .dsq .0 < b .dsq .0 → earlier a b ≡ true
+nearer-comes a b h = comes-true a b (inl h)
+
+pub waits-farther : (a b : NearBay) → earlier a b ≡ false → b .dsq .0 ≤ a .dsq .0
+waits-farther a b h = ⊎-elim (λ f. omega arith) (λ t. omega (arith, t .0)) (waits a b h)
+
 -- every bay but a bay 0 comes after the start
 pub after-zero : (b : NearBay) → 0 < b .bay → before 0 0 (b .dsq .0) (b .bay) ≡ true
 after-zero b h = comes-true start b (by-test (eqb 0 (b .dsq .0)) (λ e. inr (eqb-true 0 (b .dsq .0) e, h)) (λ e. inl (other (eqb-false 0 (b .dsq .0) e))))

@@ -5,6 +5,7 @@ pub mod Spanning
 pub mod Page
 pub mod Ready
 pub mod Keys
+pub mod Placing
 pub mod Offer
 pub mod Searching
 pub mod Takes

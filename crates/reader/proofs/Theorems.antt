@@ -1,19 +1,22 @@
 -- What reading a text keeps to: every text is answered as `Asks` says, a question's own text is read as that question,
 -- and no two questions have one text. Assumes nothing.
 use mathlib.Core.Path.{_≡_, refl, sym, ap, _∙_}
-use mathlib.Core.List.{List}
+use mathlib.Core.List.{List, [], _∷_, _++_}
 use mathlib.Core.Bool.{Bool, true, false, false≢true}
-use Prim.Native.Nat.{ℕ, _^_, _≤_, _<_}
-use native.Mathlib.Nat.{lt-of-lt-of-le}
+use Prim.Native.Nat.{ℕ, suc, _+_, _^_, _≤_, _<_}
+use native.Mathlib.Nat.{lt-of-lt-of-le, le-trans}
+use native.Mathlib.Omega.{arith}
 use lib.Dec.{lit<, lit≤}
 use lib.IntN.{ℤ, pos, negsuc}
-use lib.ListN.{length}
+use lib.ListN.{length, length-append}
+use mir.Syntax.{w32}
+use mir.Val.{SFits}
 use Rattle.decimal.specs.Decimal.{decimal}
-use Rattle.decimal.proofs.Laws.{decimal-length}
+use Rattle.decimal.proofs.Laws.{decimal-length, decimal-short}
 use Rattle.nearest.specs.declared.question.Question.{Question}
 use Rattle.reader.specs.declared.Asked.{Asked}
 use Rattle.reader.specs.declared.Asked.the-variants.{Read, Bad}
-use Rattle.reader.specs.Question.{questionText, Fitting, Asks, questionIn}
+use Rattle.reader.specs.Question.{signed, line, questionText, Fitting, Asks, questionIn}
 use Rattle.reader.specs.Table.{fields, numberOf, numbersOf, scansIn}
 use Rattle.reader.proofs.Tabled.{chain-in, own-text, answer-asks}
 
@@ -65,3 +68,30 @@ read-back q f = asks-once (questionText q) (questionIn (questionText q)) (Read q
 -- what fits has no more digits than document 01 allows, so that no test counts them: ten here, twenty by `decimal-short`
 pub ten-digits : (n : ℕ) → n < 2 ^ 32 → length (decimal n) ≤ 10
 ten-digits n h = decimal-length 10 n (lt-of-lt-of-le h (lit≤ tt)) (lit< tt)
+
+-- no question's text is longer than 108 bytes: the sum of six lines, each at its longest
+signed-short : (z : ℤ) → SFits w32 z → length (signed z) ≤ 11
+signed-short (pos n) f = le-trans (ten-digits n (lt-of-lt-of-le (f .sfits) (lit≤ tt))) (lit≤ tt)
+signed-short (negsuc n) f =
+    let low : n < 2147483648 = f .sfits in
+    let small : suc n < 4294967296 = omega arith in
+    let few : length (decimal (suc n)) ≤ 10 = ten-digits (suc n) small in omega arith
+
+line-length : (key value : List ℕ) → length (line key value) ≡ length key + length value + 1
+unfolding line
+line-length key value = simp length-append (omega arith)
+
+pub text-short : (q : Question) → Fitting q → length (questionText q) ≤ 108
+unfolding questionText
+text-short q f =
+    let x = signed-short (q .from .x) (f .x) in
+    let y = signed-short (q .from .y) (f .y) in
+    let k = ten-digits (q .k) (f .k) in
+    let badge = ten-digits (q .badge .0) (f .badge) in
+    let dsq = decimal-short (q .mark .dsq .0) (f .dsq) in
+    let bay = ten-digits (q .mark .bay) (f .bay) in
+    simp (length-append, line-length) (omega (arith, x, y, k, badge, dsq, bay))
+
+-- so a longer text is none, and what comes after 108 bytes need not be read
+pub long-bad : (t : List ℕ) → 108 < length t → questionIn t ≡ Bad
+long-bad t h = asks-once t (questionIn t) Bad (question-asks t) (λ q f e. let s = text-short q f in let l = ap length e in omega arith)

@@ -1,12 +1,18 @@
 -- From text to text: a good question's own text is answered with the page, printed; and the contract leaves no choice.
 -- Assumes nothing.
-use mathlib.Core.Path.{_≡_, ap, _∙_}
+use mathlib.Core.Path.{_≡_, sym, ap, _∙_}
+use mathlib.Core.Bool.{true, false}
 use mathlib.Core.List.{List, []}
-use Prim.Native.Nat.{ℕ, _≤_}
+use Prim.Native.Nat.{ℕ, _≤_, _<_}
+use native.Mathlib.Omega.{arith}
+use lib.Dec.{leb}
 use lib.ListN.{length, take, drop}
+use lib.Seq.{length-take-le, take-all}
+use borrow.Author.Tests.{leb-true, leb-false}
+use Rattle.order.proofs.Place.{by-test}
 use Rattle.nearest.specs.declared.question.Question.{Question}
 use Rattle.reader.specs.Question.{questionText, Fitting}
-use Rattle.reader.proofs.Theorems.{read-back}
+use Rattle.reader.proofs.Theorems.{read-back, long-bad}
 use Rattle.printer.specs.Printed.{printed}
 use Rattle.printer.proofs.Theorems.{reply-unique}
 use Rattle.ask.specs.Reply.{refusal, pageOf, refused, replyOf}
@@ -16,7 +22,7 @@ use Rattle.ask.proofs.Answers.{granted, reply-page, reply-refused}
 use Rattle.demands.specs.Runs.{Bytes}
 use Rattle.demands.proofs.Pages.{page-small}
 use Rattle.text.specs.Text.{emptyRoom, replyText, answerText}
-use Rattle.text.proofs.Laws.{text-read}
+use Rattle.text.proofs.Laws.{text-read, text-bad}
 
 module _ (map : List ℕ) (q : Question) (f : Fitting q) where
   pub says-page : Bytes map → refusal map q (length emptyRoom) ≡ 0 → answerText map (questionText q) ≡ printed 0 (pageOf map q)
@@ -34,3 +40,16 @@ pub text-unique : (map input before a b : List ℕ) (r s : ℕ)
     → (take r a ≡ answerText map input) × (r ≤ length a) × (drop r a ≡ drop r before)
     → (take s b ≡ answerText map input) × (s ≤ length b) × (drop s b ≡ drop s before) → (r ≡ s) × (a ≡ b)
 text-unique map input before = reply-unique before (answerText map input)
+
+-- a program that reads more than 108 bytes of its input has read enough: what comes after them does not show
+pub rest-unread : (map input : List ℕ) (n : ℕ) → 108 < n → answerText map (take n input) ≡ answerText map input
+rest-unread map input n h = by-test (leb (length input) n) all-read too-long
+  where
+    all-read : leb (length input) n ≡ true → answerText map (take n input) ≡ answerText map input
+    all-read e = ap (answerText map) (take-all n input (leb-true (length input) n e))
+
+    too-long : leb (length input) n ≡ false → answerText map (take n input) ≡ answerText map input
+    too-long e =
+        let more : n < length input = leb-false (length input) n e in
+        let full : length (take n input) ≡ n = length-take-le n input (omega arith) in
+        text-bad map (take n input) (long-bad (take n input) (omega arith)) ∙ sym (text-bad map input (long-bad input (omega arith)))
