@@ -179,7 +179,8 @@ fn questions(dice: &Dice, batch: &mut Batch) {
     }
 }
 
-/// Maps that show a badge the same bays: hidden ones are put among them, and all are arranged anew.
+/// Maps 0 to 2 show a badge the same bays: hidden ones are put among them, and all are arranged anew. Map 3 is another of
+/// them, or a damaged one.
 fn stand_ins(dice: &Dice, batch: &mut Batch, badge: u32, style: Style) {
     let hidden: Vec<u8> = (0..32).filter(|z| badge >> z & 1 == 0).collect();
     let shown: Vec<u8> = (0..32).filter(|z| badge >> z & 1 == 1).collect();
@@ -194,12 +195,28 @@ fn stand_ins(dice: &Dice, batch: &mut Batch, badge: u32, style: Style) {
             bays.extend(maps::bays(dice, extra, style, &hidden).into_iter().filter(free));
         }
         let map = maps::arranged(dice, bays);
-        batch.map(m, &map);
+        batch.map(m, &if m == 3 && dice.one_in(2) { damage::damaged(dice, &map) } else { map });
     }
 }
 
-/// A whole run of pages: k changes, refused calls come in between, and any of four maps stands in at each page. Each page
-/// is asked of a second map, too, from the same mark.
+/// A call in a run that is refused: for the map that stands in, if one is damaged, or for its room, k, point or badge.
+fn refused(dice: &Dice, batch: &mut Batch, call: Call) {
+    let mark = batch.mark;
+    let spoiled = match dice.below(4) {
+        0 => Call { room: call.room.min(16 * call.k as usize - 1), ..call },
+        1 => Call { k: dice.pick(&[0, 101]), ..call },
+        2 => Call { x: LIMIT + 1, ..call },
+        _ => Call { badge: 0, ..call },
+    };
+    let damaged = batch.hall(3).verdict.0 != 0;
+    let (m, bad) = if damaged && dice.one_in(2) { (3, call) } else { (dice.below(3), spoiled) };
+    let (answer, _) = batch.ask(m, bad);
+    batch.count_in(format!("refused in a run of pages, answer {answer}"));
+    assert!(answer != 0 && batch.mark == mark, "a call that should be refused went through, or moved the mark");
+}
+
+/// A whole run of pages: k changes, refused calls come in between, and any of the maps stands in at each page. Each page is
+/// asked of a second map, too, from the same mark.
 fn pages(dice: &Dice, batch: &mut Batch) {
     let style = dice.pick(&STYLES);
     let badge = if dice.one_in(6) { u32::MAX } else { let size = dice.between(1, 8); badge_of(dice, size) };
@@ -210,16 +227,14 @@ fn pages(dice: &Dice, batch: &mut Batch) {
     loop {
         let k = dice.pick(&[1, 2, 3, 5, 10, 30]);
         let call = Call { x, y, k, badge, room: room_for(dice, k), fill: dice.below(256) as u8 };
-        let mark = batch.mark;
-        if dice.one_in(5) {
-            let refused = Call { room: call.room.min(16 * k as usize - 1), ..call };
-            batch.ask(dice.below(4), refused);
-            assert_eq!(batch.mark, mark, "a refused call moved the mark");
+        if dice.one_in(2) {
+            refused(dice, batch, call);
         }
-        let (_, page) = batch.ask(dice.below(4), call);
+        let mark = batch.mark;
+        let (_, page) = batch.ask(dice.below(3), call);
         if dice.one_in(2) {
             batch.set_mark(mark);
-            let (_, again) = batch.ask(dice.below(4), call);
+            let (_, again) = batch.ask(dice.below(3), call);
             assert!(page == again, "two maps that show the same bays gave different pages");
         }
         received.extend(&page);

@@ -13,13 +13,14 @@ mod question;
 mod text;
 
 /// What 3,000 cases must hold, each at least so many times: a batch that lost a kind would try less than it says.
-const MUST_HOLD: [(&str, usize); 29] = [
+const MUST_HOLD: [(&str, usize); 37] = [
     ("map accepted, height 1", 10),
     ("map accepted, height 2", 10),
     ("map accepted, height 3", 10),
     ("map accepted, height 4", 3),
     ("map accepted, height 5", 3),
     ("map accepted, height 6", 3),
+    ("map accepted, full", 5),
     ("rule 11 broken alone", 20),
     ("rule 12 broken alone", 20),
     ("rule 13 broken alone", 20),
@@ -42,7 +43,14 @@ const MUST_HOLD: [(&str, usize); 29] = [
     ("text, answer 6", 50),
     ("measure, answer 1", 5),
     ("measure, answer 2", 20),
+    ("page that starts at a tie with the mark", 50),
+    ("page that ends in a tie", 50),
+    ("page past a nearer hidden bay", 50),
     ("whole runs of pages", 20),
+    ("refused in a run of pages, answer 2", 3),
+    ("refused in a run of pages, answer 4", 3),
+    ("refused in a run of pages, answer 5", 3),
+    ("plain distance", 50),
 ];
 
 fn main() {
