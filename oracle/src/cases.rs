@@ -34,8 +34,7 @@ fn good(dice: &Dice, style: Style) -> Vec<u8> {
 }
 
 fn bays_in(dice: &Dice, count: usize, style: Style) -> Vec<Entry> {
-    let zones = zones(dice);
-    maps::bays(dice, count, style, &zones)
+    maps::bays(dice, count, style, &zones(dice))
 }
 
 /// A badge of so many zones.
@@ -48,9 +47,8 @@ fn badge_of(dice: &Dice, zones: usize) -> u32 {
 /// A badge that passes, mostly with a zone that stands in the map.
 fn good_badge(dice: &Dice, batch: &Batch, m: usize) -> u32 {
     let entries = &batch.hall(m).entries;
-    let size = dice.pick(&[1, 1, 2, 4, 7]);
     let own = if entries.is_empty() || dice.one_in(8) { 0 } else { 1 << entries[dice.below(entries.len())].zone };
-    if dice.one_in(4) { u32::MAX } else { badge_of(dice, size) | own }
+    if dice.one_in(4) { u32::MAX } else { badge_of(dice, dice.pick(&[1, 1, 2, 4, 7])) | own }
 }
 
 /// A mark: none, that of a bay in the badge's list or beside it, or any.
@@ -91,7 +89,7 @@ fn edge_call(dice: &Dice, call: Call) -> Call {
             0 => c.x = dice.pick(&far),
             1 => c.y = dice.pick(&far),
             2 => c.k = dice.pick(&[0, 1, 100, 101, u32::MAX, 1 << 28]),
-            3 => c.badge = { let size = dice.pick(&[0, 1, 8, 9, 31, 32]); badge_of(dice, size) },
+            3 => c.badge = badge_of(dice, dice.pick(&[0, 1, 8, 9, 31, 32])),
             _ => c.room = (16 * c.k.min(100) as usize).saturating_sub(dice.pick(&[0, 1, 15, 16])),
         }
     }
@@ -160,8 +158,7 @@ fn edges(dice: &Dice, batch: &mut Batch) {
     let mut list = damage::headers(&map);
     for n in 0..nodes {
         list.extend(damage::node_damage(dice, &map, n));
-        let i = dice.below(8);
-        list.extend(damage::slot_damage(dice, &map, n, i));
+        list.extend(damage::slot_damage(dice, &map, n, dice.below(8)));
     }
     for bad in [vec![], vec![0; 7], vec![0; 8]].iter().chain(&list) {
         batch.map(1, bad);
@@ -184,8 +181,7 @@ fn questions(dice: &Dice, batch: &mut Batch) {
 fn stand_ins(dice: &Dice, batch: &mut Batch, badge: u32, style: Style) {
     let hidden: Vec<u8> = (0..32).filter(|z| badge >> z & 1 == 0).collect();
     let shown: Vec<u8> = (0..32).filter(|z| badge >> z & 1 == 1).collect();
-    let most = dice.pick(&[3, 8, 20, 60]);
-    let count = dice.below(most + 1);
+    let count = dice.below(dice.pick(&[3, 8, 20, 60]) + 1);
     let visible = maps::bays(dice, count, style, &shown);
     for m in 0..4 {
         let extra = if hidden.is_empty() { 0 } else { dice.pick(&[0, 1, 20, 60]) };
@@ -219,7 +215,7 @@ fn refused(dice: &Dice, batch: &mut Batch, call: Call) {
 /// asked of a second map, too, from the same mark.
 fn pages(dice: &Dice, batch: &mut Batch) {
     let style = dice.pick(&STYLES);
-    let badge = if dice.one_in(6) { u32::MAX } else { let size = dice.between(1, 8); badge_of(dice, size) };
+    let badge = if dice.one_in(6) { u32::MAX } else { badge_of(dice, dice.between(1, 8)) };
     stand_ins(dice, batch, badge, style);
     batch.set_mark((0, 0));
     let (x, y) = (style.place(dice), style.place(dice));
