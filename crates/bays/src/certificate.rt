@@ -33,14 +33,19 @@ pub fn home(b: u32) -> usize
     ((b as u64) * 2654435769 % 4294967296 / 1048576) as usize
 }
 
-fn walk(map: &[u8], table: &[u16; 4096], b: u32, from: usize) -> u16
-    requires { ⌜ Shaped (viewOf (now map)) × (from < 4096) ⌝ }
+// The entry for b on a walk through the table. `own` is an entry that refers to b: where it is met first, as it nearly
+// always is, the map need not be read.
+fn walk(map: &[u8], table: &[u16; 4096], b: u32, own: u16, from: usize) -> u16
+    requires { ⌜ Shaped (viewOf (now map)) × (from < 4096) × (1 ≤ own) × (entryRef (viewOf (now map)) own ≡ b) ⌝ }
     ensures { λ r. ⌜ r ≡ walkOf (viewOf (now (map .entry))) (now (table .entry)) b 64 from ⌝ }
 {
     let mut at = from;
     let mut left: usize = 64;
     while 0 < left {
         let entry = table[at];
+        if entry == own {
+            return own;
+        }
         if entry == 0 {
             return 0;
         }
@@ -82,12 +87,12 @@ fn seek(map: &[u8], table: &[u16; 4096], n: usize, b: u32) -> usize
     at
 }
 
-fn find(map: &[u8], way: Way, table: &[u16; 4096], n: usize, b: u32) -> u16
-    requires { ⌜ Shaped (viewOf (now map)) × (n ≤ 4096) ⌝ }
+fn find(map: &[u8], way: Way, table: &[u16; 4096], n: usize, b: u32, own: u16) -> u16
+    requires { ⌜ Shaped (viewOf (now map)) × (n ≤ 4096) × (1 ≤ own) × (entryRef (viewOf (now map)) own ≡ b) ⌝ }
     ensures { λ r. ⌜ r ≡ findOf way (viewOf (now (map .entry))) (now (table .entry)) n b ⌝ }
 {
     match way {
-        Way::Hashed => walk(map, table, b, home(b)),
+        Way::Hashed => walk(map, table, b, own, home(b)),
         Way::Sorted => {
             let at = seek(map, table, n, b);
             table[at]
@@ -102,7 +107,8 @@ fn is_found(map: &[u8], way: Way, table: &[u16; 4096], n: usize, j: usize) -> bo
     if !is_bay(map, j) {
         return true;
     }
-    let entry = find(map, way, table, n, floor::ref_of(map, j)) as usize;
+    let own = (j + 1) as u16;
+    let entry = find(map, way, table, n, floor::ref_of(map, j), own) as usize;
     entry == j + 1
 }
 

@@ -5,7 +5,9 @@ use lib.Dec.{eqb}
 use Prim.Native.Nat.{ℕ, _+_}
 use borrow.Author.Tests.{not-true, not-false}
 use mathlib.Core.Path.{_≡_, sym, ap, _∙_}
+use native.Mathlib.Omega.{arith}
 use Rattle.bays.specs.Certificate.{findOf, foundAt}
+use Rattle.bays.proofs.Search.{own-entry}
 use borrow.Author.Needs.{needs}
 use Rattle.bays.proofs.certificate.is_found.Statement.{statement}
 use Rattle.bays.proofs.certificate.is_found.Tie as tie
@@ -17,11 +19,19 @@ returns : tie.Need-returns
 unfolding foundAt
 returns c = simp (sym (c .before .is-bay .ensures) ∙ not-true _ (c .if1 .taken))
 
+add-own : tie.Need-add-own
+add-own c = search needs
+
+cast-own : tie.Need-cast-own
+cast-own c = let s = c .before .before .before in omega (arith, s .pre .0 .few, s .pre .1 .1)
+
 ref-of-requires : tie.Need-ref-of-requires
 ref-of-requires c κs = search needs
 
 find-requires : tie.Need-find-requires
-find-requires c κs = search needs
+find-requires c κs =
+    let s = c .before .before .before .before in
+    (s .pre .0, s .pre .1 .0, omega arith, own-entry (viewOf (s .args .map .now)) (s .args .j) (s .pre .1 .1) ∙ sym (c .ref-of .ensures))
 
 cast-entry : tie.Need-cast-entry
 cast-entry c = search needs
@@ -44,6 +54,8 @@ is-found-spec =
     (tie.spec
     is-bay-requires
     returns
+    add-own
+    cast-own
     ref-of-requires
     find-requires
     cast-entry
