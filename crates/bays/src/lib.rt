@@ -1,7 +1,8 @@
 // Rule 16, fast and exact: a table of the bays' slots is made, and it is checked that every bay is found in it from its
 // number alone, which shows that no number stands twice. Nothing rests on how the table was made: first by hashing, and
 // where numbers crowd, by a radix sort. Where both checks fail, the caller falls back to `is_lone`, the definition itself.
-// The map check calls this; it knows maps through `floor` alone.
+// The map check calls this; it knows maps through `floor` alone. Its functions have a `requires`: the header rule has
+// been tried before, and a slot or a table is inside its bounds.
 mod certificate;
 mod table;
 

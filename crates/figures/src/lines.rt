@@ -1,8 +1,10 @@
-// The lines that the program writes, one for each figure or part of one.
-ghost use Prim.Native.Nat.{_<_, _≤_};
+// The lines that the program writes, one for each figure or part of one. What it writes is run and compared with its
+// file stdout, and not proved; so no function here has an `ensures`.
+ghost use Prim.Native.Nat.{_≤_};
 ghost use lib.ListN.{length};
 use ask::Answer;
 use ask::ask;
+use floor::u32_at;
 use libc::STDOUT_FILENO;
 use measure::Bounds;
 use measure::Point;
@@ -83,26 +85,11 @@ fn record(room: &[u8; 1616], at: usize)
     requires { ⌜ at ≤ 1600 ⌝ }
 {
     text(b", bay ");
-    number(word(room, at));
+    number(u32_at(room, at) as u64);
     text(b" dsq ");
-    number(word(room, at + 8) + 4294967296 * word(room, at + 12));
-}
-
-// Four bytes, the lowest first.
-fn word(room: &[u8; 1616], at: usize) -> u64
-    requires { ⌜ at ≤ 1612 ⌝ }
-    ensures { λ r. ⌜ r < 4294967296 ⌝ }
-{
-    wide(room[at])
-        + 256 * wide(room[at + 1])
-        + 65536 * wide(room[at + 2])
-        + 16777216 * wide(room[at + 3])
-}
-
-fn wide(b: u8) -> u64
-    ensures { λ r. ⌜ r < 256 ⌝ }
-{
-    b as u64
+    let low = u32_at(room, at + 8) as u64;
+    let high = u32_at(room, at + 12) as u64;
+    number(low + 4294967296 * high);
 }
 
 // A figure's number, and which part of it a line is about.

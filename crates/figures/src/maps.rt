@@ -1,5 +1,5 @@
 // The maps that the figures speak of, put into zeros with room for three nodes. The root is node 0, and every
-// coordinate, bay number and node number fits one byte.
+// coordinate, bay number and node number fits one byte. What the figures print of these maps shows that they are right.
 ghost use Prim.Native.Nat.{_<_, _≤_};
 
 // From low to high on an axis.

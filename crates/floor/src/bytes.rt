@@ -1,4 +1,4 @@
-// Little-endian numbers out of bytes.
+// Little-endian numbers out of bytes. Whoever reads one has shown that its bytes are there, so each has a `requires`.
 ghost use mathlib.Core.Path.{_≡_};
 ghost use Prim.Native.Nat.{_+_, _<_, _≤_};
 ghost use lib.ListN.{length};

@@ -5,7 +5,7 @@ use libc::STDOUT_FILENO;
 fn main() {
     let mut map = [0u8; 50185];
     let n = mapfile::read_map(&mut map);
-    // The longest question has 108 bytes: one that fills this is none.
+    // The longest question has 108 bytes: what comes after 128 does not show (`rest-unread`).
     let mut input = [0u8; 128];
     let m = io::read_full(0, &mut input);
     let mut out = [0u8; 8192];

@@ -46,7 +46,7 @@ pub fn search(map: &[u8], q: Question, node: usize, level: u8, best: Best) -> Be
     b
 }
 
-// The best list of a map that is one leaf.
+// The best list of a map that is one leaf. A function for this and for a leaf below `search` would copy the list.
 fn one_leaf(map: &[u8], q: Question, root: usize) -> Best
     requires { ⌜ Ground (viewOf (now map)) (q .from) × (root < viewOf (now map) .count) × (1 ≤ q .k) × (q .k ≤ 100) ⌝ }
     ensures { λ r. ⌜ Searched (viewOf (now (map .entry))) q (nodeBays (viewOf (now (map .entry))) (distanceTo (viewOf (now (map .entry))) (q .from)) 0 root) noBays r ⌝ }

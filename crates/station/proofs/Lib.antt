@@ -1,2 +1,3 @@
 -- The laws of the exports.
 pub mod Small
+pub mod Measures

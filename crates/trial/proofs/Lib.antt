@@ -1,3 +1,2 @@
 -- The laws that the program's proofs lean on.
 pub mod Lengths
-pub mod Digits

@@ -1,8 +1,9 @@
 -- `station::krylozhma_minmaxdist` meets its contract: the measure of that point and box. Assumes nothing.
 use borrow.Author.Needs.{needs}
-use mir.Facts.{toZ-ofZ}
-use mir.Syntax.{w32}
-use mir.Val.{SFits}
+use mathlib.Core.Path.{_≡_, ap, _∙_}
+use Rattle.measure.specs.Axes.{minMaxDist}
+use Rattle.measure.specs.Answer.{Reply}
+use Rattle.station.proofs.Measures.{AllFit, same-measure}
 use Rattle.station.proofs.krylozhma_minmaxdist.Statement.{statement}
 use Rattle.station.proofs.krylozhma_minmaxdist.Tie as tie
 
@@ -18,16 +19,14 @@ minmaxdist-requires c κs = search needs
 value-requires : tie.Need-value-requires
 value-requires c κs = search needs
 
--- what stands in an argument fits its type, so that nothing is lost on the way
-fits : (c : tie.Start) → SFits w32 (c .args .x) × SFits w32 (c .args .y) × SFits w32 (c .args .xlow) × SFits w32 (c .args .xhigh) × SFits w32 (c .args .ylow) × SFits w32 (c .args .yhigh)
+fits : (c : tie.Start) → AllFit (c .args .x) (c .args .y) (c .args .xlow) (c .args .xhigh) (c .args .ylow) (c .args .yhigh)
 fits c = search needs
 
 returns : tie.Need-returns
 returns c =
     let m = c .before in
     let p = m .before .before in
-    let f = fits (p .before) in
-    simp (c .value .ensures, m .minmaxdist .ensures, p .point .ensures, m .before .bounds .ensures, toZ-ofZ (f .0), toZ-ofZ (f .1), toZ-ofZ (f .2), toZ-ofZ (f .3), toZ-ofZ (f .4), toZ-ofZ (f .5))
+    c .value .ensures ∙ ap (λ (r : Reply). r .value) (m .minmaxdist .ensures ∙ same-measure minMaxDist (fits (p .before)) (p .point .ensures) (m .before .bounds .ensures))
 
 pub krylozhma-minmaxdist-spec : {M : Type 1} → statement M
 krylozhma-minmaxdist-spec =
