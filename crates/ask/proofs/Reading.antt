@@ -4,9 +4,10 @@ use native.Mathlib.Omega.{arith, pow-step}
 use mathlib.Core.Path.{_≡_, refl, sym, ap, ap₂, _∙_}
 use mathlib.Core.List.{List, [], _∷_, _++_, append-assoc, List·Memᴰ, List·Memᴰ·head, List·Memᴰ·tail}
 use lib.ListN.{length, take, drop, replicate}
-use Rattle.floor.specs.Bytes.{leAt}
-use Rattle.floor.proofs.Words.{le-drop}
-use Rattle.room.specs.Record.{leBytes, recordBytes}
+use Rattle.words.specs.Words.{leAt}
+use Rattle.words.proofs.Reading.{le-drop}
+use Rattle.words.specs.Words.{leBytes}
+use Rattle.room.specs.Record.{recordBytes}
 use Rattle.nearest.specs.declared.near_bay.NearBay.{NearBay}
 use Rattle.ask.specs.Room.{recordOf, recordsOf, roomWith, recordIn, recordsIn}
 

@@ -7,7 +7,8 @@ use native.Mathlib.Omega.{arith}
 use lib.ListN.{length, getD, take, drop, replicate, length-append, length-drop, length-take, length-replicate, replicate-append-replicate}
 use lib.Seq.{sets, take-suc, take-all, length-take-le}
 use Rattle.room.specs.Record.{recordBytes}
-use Rattle.room.proofs.Room.{laid-next, length-record, no-record}
+use Rattle.words.proofs.Stores.{laid-next}
+use Rattle.room.proofs.Room.{length-record, no-record}
 use Rattle.nearest.specs.declared.near_bay.NearBay.{NearBay}
 use Rattle.ask.specs.Room.{recordOf, recordsOf, roomWith}
 

@@ -3,7 +3,7 @@
 use mathlib.Core.List.{List, [], _∷_, _++_}
 use Prim.Native.Nat.{ℕ, zero, suc, _*_, _-_}
 use lib.ListN.{length, drop, replicate}
-use Rattle.floor.specs.Bytes.{leAt}
+use Rattle.words.specs.Words.{leAt}
 use Rattle.room.specs.Record.{recordBytes}
 use Rattle.nearest.specs.declared.near_bay.NearBay.{NearBay}
 

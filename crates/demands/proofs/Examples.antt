@@ -13,7 +13,7 @@ use borrow.Author.Tests.{ltb-true}
 use Rattle.numbers.proofs.Tests.{both}
 use Rattle.measure.specs.Axis.{inRange, spanIn, squareOf, nearestOn}
 use Rattle.measure.specs.Axes.{minDist}
-use Rattle.floor.specs.Bytes.{leAt}
+use Rattle.words.specs.Words.{leAt}
 use Rattle.floor.specs.View.{viewOf, filled}
 use Rattle.bays.specs.Bays.{twin, lone, baysOk}
 use Rattle.rules.specs.Header.{fieldsOk, headerOk}

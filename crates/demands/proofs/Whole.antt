@@ -10,7 +10,7 @@ use Rattle.numbers.proofs.Tests.{both}
 use Rattle.measure.specs.declared.Point.{Point}
 use Rattle.measure.specs.Answer.{pointOk}
 use Rattle.floor.specs.View.{View, viewOf, slotAt, leaf, bay, filled, boundsOf}
-use Rattle.floor.specs.Bytes.{leAt}
+use Rattle.words.specs.Words.{leAt}
 use Rattle.rules.specs.Verdicts.{Keeps}
 use Rattle.tree.proofs.Tree.{bays-apart}
 use Rattle.order.specs.Order.{only, gather, sort, Same, Strict, Distinct}

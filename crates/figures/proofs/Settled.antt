@@ -10,7 +10,7 @@ use mir.Facts.{and-yes}
 use Rattle.measure.specs.Axis.{inRange, pointIn, spanIn, squareOf, nearestOn, lowIsNear, lowIsFar}
 use Rattle.measure.specs.Axes.{minDist, minMaxDist}
 use Rattle.measure.specs.Answer.{axesOf, Reply, reply, measuredBy}
-use Rattle.floor.specs.Bytes.{leAt}
+use Rattle.words.specs.Words.{leAt}
 use Rattle.floor.specs.View.{viewOf, filled}
 use Rattle.bays.specs.Bays.{twin, lone, baysOk}
 use Rattle.rules.specs.Header.{fieldsOk, headerOk}

@@ -4,13 +4,13 @@ ghost use Prim.Native.Nat.{_≤_};
 ghost use lib.ListN.{length};
 use ask::Answer;
 use ask::ask;
-use floor::u32_at;
 use libc::STDOUT_FILENO;
 use measure::Bounds;
 use measure::Point;
 use measure::SquaredMm;
 use nearest::Question;
 use rules::check;
+use words::u32_at;
 
 // A figure's two measures, each with its answer.
 pub fn measures(figure: u64, p: Point, b: Bounds) {

@@ -1,2 +1,2 @@
--- The laws of bytes and of what is inside a map.
-pub mod Words
+-- What lies inside a map.
+pub mod Inside

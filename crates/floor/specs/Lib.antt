@@ -1,3 +1,2 @@
 -- The bytes of a floor map, and what they say.
-pub mod Bytes
 pub mod View

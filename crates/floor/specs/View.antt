@@ -6,12 +6,12 @@ use mathlib.Core.List.{List}
 use Prim.Native.Nat.{ℕ, _+_, _*_, _/_, _%_, _^_, _<_, _≤_}
 use lib.Dec.{eqb}
 use lib.ListN.{length, getD}
+use Rattle.words.specs.Words.{leAt, i32At}
 use Rattle.measure.specs.declared.Bounds.{Bounds}
 use Rattle.measure.specs.declared.Span.{Span}
 use Rattle.floor.specs.declared.Header.{Header}
 use Rattle.floor.specs.declared.Node.{Node}
 use Rattle.floor.specs.declared.Slot.{Slot}
-use Rattle.floor.specs.Bytes.{leAt, i32At}
 
 pub record View : Type 0 where
   -- the header: how many bytes there are, N, the root, H, and whether its three zero bytes are zero

@@ -1,20 +1,16 @@
 // The bytes of a floor map as a view: the header's fields, a node's by its number, a slot's by its flat number
 // j = 8 · node + i. Nothing outside this crate knows an offset. The map check and the search read maps through it.
 // Its functions have a `requires`, since a field is read only where the header rule has shown that it is there.
-// `u32_at` and `signed` are for any four bytes; records are read by the first, too.
-mod bytes;
-
-pub use bytes::signed;
-pub use bytes::u32_at;
 ghost use mathlib.Core.Path.{_≡_};
 ghost use Prim.Native.Nat.{_+_, _*_, _/_, _<_, _≤_};
 ghost use lib.ListN.{length};
 ghost use lib.Dec.{leb};
 ghost use Rattle.floor.specs.View.{viewOf, slotAt, spanAt, headerSize, mapSize, filled, boundsOf, slotOf, Shaped, HeaderRead, NodeRead};
-use bytes::i32_at;
-use bytes::u16_at;
 use measure::Bounds;
 use measure::Span;
+use words::i32_at;
+use words::u16_at;
+use words::u32_at;
 
 // What stands in a slot, filled or not.
 pub struct Slot {

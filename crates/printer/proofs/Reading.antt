@@ -6,8 +6,8 @@ use native.Mathlib.Nat.{add-zero}
 use native.Mathlib.Omega.{arith}
 use lib.ListN.{length, drop, getD}
 use lib.Seq.{drop-drop}
-use Rattle.floor.specs.Bytes.{leAt}
-use Rattle.floor.proofs.Words.{le-drop, le-joined}
+use Rattle.words.specs.Words.{leAt}
+use Rattle.words.proofs.Reading.{le-drop, le-joined}
 use Rattle.nearest.specs.declared.near_bay.NearBay.{NearBay}
 use Rattle.ask.specs.Room.{recordIn, recordsIn}
 

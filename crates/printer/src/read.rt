@@ -3,9 +3,9 @@ ghost use mathlib.Core.Path.{_≡_};
 ghost use Prim.Native.Nat.{_+_, _*_, _≤_};
 ghost use lib.ListN.{length, drop};
 ghost use Rattle.ask.specs.Room.{recordIn};
-use floor::u32_at;
 use measure::SquaredMm;
 use nearest::NearBay;
+use words::u32_at;
 
 pub fn record_at(room: &[u8], i: usize) -> NearBay
     requires { ⌜ 16 * i + 16 ≤ length (now room) ⌝ }

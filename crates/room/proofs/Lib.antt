@@ -1,3 +1,3 @@
--- The laws of a record's bytes, of a room that is filled from the front, and of the stores that fill it.
+-- The laws of a record's bytes and of the stores that write them.
 pub mod Room
 pub mod Stores

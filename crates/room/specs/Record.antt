@@ -1,11 +1,7 @@
 -- The 16 bytes of a record, as numbers.
 use mathlib.Core.List.{List, [], _∷_, _++_}
-use Prim.Native.Nat.{ℕ, zero, suc, _/_, _%_}
-
--- the low k bytes of a number, little-endian
-unfoldable pub leBytes : ℕ → ℕ → List ℕ
-leBytes zero n = []
-leBytes (suc k) n = n % 256 ∷ leBytes k (n / 256)
+use Prim.Native.Nat.{ℕ}
+use Rattle.words.specs.Words.{leBytes}
 
 -- bay (4), zone (1), three zero bytes, squared distance (8)
 unfoldable pub recordBytes : ℕ → ℕ → ℕ → List ℕ

@@ -2,7 +2,7 @@
 -- Assumes nothing.
 use mathlib.Core.Path.{_≡_, refl}
 use Rattle.measure.specs.Axis.{inRange, spanIn}
-use Rattle.floor.specs.Bytes.{leAt}
+use Rattle.words.specs.Words.{leAt}
 use Rattle.floor.specs.View.{viewOf, filled}
 use Rattle.bays.specs.Bays.{twin, lone, baysOk}
 use Rattle.rules.specs.Header.{fieldsOk, headerOk}

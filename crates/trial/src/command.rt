@@ -1,7 +1,7 @@
 // A command's head: its kind, the map's number, a byte to fill the room from, and its words, named as in the batch's
 // description. What a word means is for the command's kind to say.
 use crate::batch::read_to;
-use floor::u32_at;
+use words::u32_at;
 
 pub struct Command {
     pub kind: u8,

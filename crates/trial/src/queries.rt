@@ -10,8 +10,6 @@ use crate::command::Command;
 use crate::command::joined;
 use crate::kept::Kept;
 use crate::say::say;
-use floor::signed;
-use floor::u32_at;
 use libc::STDOUT_FILENO;
 use nearest::Mark;
 use station::krylozhma_ask;
@@ -20,6 +18,8 @@ use station::krylozhma_measure_answer;
 use station::krylozhma_mindist;
 use station::krylozhma_minmaxdist;
 use station::krylozhma_plain;
+use words::signed;
+use words::u32_at;
 
 // Two numbers come in one, the first in the upper 32 bits.
 const PAIR: u64 = 4294967296;

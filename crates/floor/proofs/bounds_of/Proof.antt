@@ -4,7 +4,7 @@ use mathlib.Core.Path.{_≡_, sym, ap, _∙_}
 use Prim.Native.Nat.{ℕ, _+_, _*_}
 use native.Mathlib.Omega.{arith}
 use Rattle.floor.specs.View.{viewOf, spanAt, slotAt}
-use Rattle.floor.proofs.Words.{slot-inside}
+use Rattle.floor.proofs.Inside.{slot-inside}
 use borrow.Author.Needs.{needs}
 use Rattle.floor.proofs.bounds_of.Statement.{statement}
 use Rattle.floor.proofs.bounds_of.Tie as tie

@@ -1,7 +1,7 @@
 -- `floor::header_of` meets its contract: a map in shape has a header.
 -- Assumes nothing.
 use borrow.Author.Needs.{needs}
-use Rattle.floor.proofs.Words.{header-inside}
+use Rattle.floor.proofs.Inside.{header-inside}
 use Rattle.floor.proofs.header_of.Statement.{statement}
 use Rattle.floor.proofs.header_of.Tie as tie
 

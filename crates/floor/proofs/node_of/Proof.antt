@@ -4,9 +4,10 @@ use mathlib.Core.Path.{_≡_, ap, _∙_}
 use Prim.Native.Nat.{ℕ, _+_, _/_}
 use native.Mathlib.Omega.{arith}
 use lib.Dec.{eqb}
-use Rattle.floor.specs.Bytes.{leAt}
+use Rattle.words.specs.Words.{leAt}
 use Rattle.floor.specs.View.{viewOf, nodeAt}
-use Rattle.floor.proofs.Words.{node-inside, word-first, word-rest}
+use Rattle.words.proofs.Reading.{word-first, word-rest}
+use Rattle.floor.proofs.Inside.{node-inside}
 use borrow.Author.Needs.{needs}
 use Rattle.floor.proofs.node_of.Statement.{statement}
 use Rattle.floor.proofs.node_of.Tie as tie

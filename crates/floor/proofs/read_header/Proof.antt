@@ -5,7 +5,7 @@ use Prim.Native.Nat.{ℕ}
 use native.Mathlib.Omega.{arith}
 use lib.Dec.{eqb}
 use Rattle.floor.specs.View.{viewOf}
-use Rattle.floor.proofs.Words.{word-first, word-rest, le-small}
+use Rattle.words.proofs.Reading.{word-first, word-rest, le-small}
 use borrow.Author.Needs.{needs}
 use Rattle.floor.proofs.read_header.Statement.{statement}
 use Rattle.floor.proofs.read_header.Tie as tie

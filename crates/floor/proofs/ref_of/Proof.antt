@@ -3,9 +3,9 @@
 use mathlib.Core.Path.{_≡_, ap, _∙_}
 use Prim.Native.Nat.{ℕ, _+_}
 use native.Mathlib.Omega.{arith}
-use Rattle.floor.specs.Bytes.{leAt}
+use Rattle.words.specs.Words.{leAt}
 use Rattle.floor.specs.View.{viewOf}
-use Rattle.floor.proofs.Words.{slot-inside}
+use Rattle.floor.proofs.Inside.{slot-inside}
 use borrow.Author.Needs.{needs}
 use Rattle.floor.proofs.ref_of.Statement.{statement}
 use Rattle.floor.proofs.ref_of.Tie as tie

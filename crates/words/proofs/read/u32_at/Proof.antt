@@ -1,11 +1,11 @@
--- `floor::bytes::u32_at` meets its contract: two numbers of two bytes are one of four.
+-- `words::read::u32_at` meets its contract: two numbers of two bytes are one of four.
 -- Assumes nothing.
 use mathlib.Core.Path.{_≡_}
 use native.Mathlib.Omega.{arith}
-use Rattle.floor.proofs.Words.{le-joined}
+use Rattle.words.proofs.Reading.{le-joined}
 use borrow.Author.Needs.{needs}
-use Rattle.floor.proofs.bytes.u32_at.Statement.{statement}
-use Rattle.floor.proofs.bytes.u32_at.Tie as tie
+use Rattle.words.proofs.read.u32_at.Statement.{statement}
+use Rattle.words.proofs.read.u32_at.Tie as tie
 
 u16-at-requires : tie.Need-u16-at-requires
 u16-at-requires c κs = search needs
@@ -31,7 +31,7 @@ add-result c = search needs
 returns : tie.Need-returns
 returns c =
     let s = c .before .before .before in
-    omega (arith, le-joined (s .args .map .now) 2 2 (s .args .at))
+    omega (arith, le-joined (s .args .bytes .now) 2 2 (s .args .at))
 
 pub u32-at-spec : {M : Type 1} → statement M
 u32-at-spec =

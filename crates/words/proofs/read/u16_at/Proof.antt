@@ -1,10 +1,10 @@
--- `floor::bytes::u16_at` meets its contract: it is the definition at two bytes.
+-- `words::read::u16_at` meets its contract: it is the definition at two bytes.
 -- Assumes nothing.
 use native.Mathlib.Omega.{arith}
-use Rattle.floor.specs.Bytes.{leAt}
+use Rattle.words.specs.Words.{leAt}
 use borrow.Author.Needs.{needs}
-use Rattle.floor.proofs.bytes.u16_at.Statement.{statement}
-use Rattle.floor.proofs.bytes.u16_at.Tie as tie
+use Rattle.words.proofs.read.u16_at.Statement.{statement}
+use Rattle.words.proofs.read.u16_at.Tie as tie
 
 shared-slice-read-wide : tie.Need-shared-slice-read-wide
 shared-slice-read-wide c = search needs

@@ -1,15 +1,19 @@
--- Little-endian numbers, one law over the width: how a number falls apart into its first byte and the rest, and how
--- large it is; and that a node and a slot lie inside the map. Assumes nothing.
-use mathlib.Core.Path.{_≡_, refl, sym}
-use mathlib.Core.List.{List, [], _∷_}
+-- Little-endian numbers, one law over the width: how large a number is, how it falls apart into its first byte and
+-- the rest or into two numbers, and where it is read. Assumes nothing.
+use mathlib.Core.Path.{_≡_, refl}
+use mathlib.Core.List.{List, _++_}
 use Prim.Native.Nat.{ℕ, zero, suc, _+_, _*_, _/_, _%_, _^_, _<_, _≤_}
-use native.Mathlib.Nat.{mul-assoc, zero-add}
+use native.Mathlib.Nat.{mul-assoc}
 use native.Mathlib.Omega.{arith, pow-step}
 use lib.ListN.{length, drop, getD}
+use lib.Seq.{getD-drop}
 use mir.Syntax.{w8}
 use mir.Val.{Fits}
-use Rattle.floor.specs.Bytes.{leAt}
-use Rattle.floor.specs.View.{viewOf, headerSize, nodeAt, slotAt, Shaped}
+use Rattle.words.specs.Words.{leAt}
+
+pub le-byte : (m : List ℕ) (at : ℕ) → leAt 1 m at ≡ getD m at 0
+unfolding leAt
+le-byte m at = omega arith
 
 module _ (m : List ℕ) (b : (i : ℕ) → Fits w8 (getD m i 0)) where
   pub le-small : (k at : ℕ) → leAt k m at < 256 ^ k
@@ -47,30 +51,22 @@ le-joined m (suc j) k at =
     let p : 256 ^ suc j * rest ≡ 256 * (256 ^ j * rest) = rw (pow-step 256 j) (mul-assoc 256 (256 ^ j) rest) in
     rw (e, f) (omega (arith, le-joined m j k (at + 1), p))
 
--- what is dropped moves the places
-at-drop : (a at : ℕ) (m : List ℕ) → getD (drop a m) at 0 ≡ getD m (a + at) 0
-at-drop zero at m = rw (zero-add at) refl
-at-drop (suc a) at [] = refl
-at-drop (suc a) at (b ∷ m) =
-    let e : suc a + at ≡ suc (a + at) = omega arith in
-    rw e (at-drop a at m)
-
-pub le-drop : (k a at : ℕ) (m : List ℕ) → leAt k (drop a m) at ≡ leAt k m (a + at)
+-- a number hangs on its own bytes only
+pub le-same : (k : ℕ) (l m : List ℕ) (at to : ℕ) → ((i : ℕ) → i < k → getD l (at + i) 0 ≡ getD m (to + i) 0) → leAt k l at ≡ leAt k m to
 unfolding leAt
-le-drop zero a at m = refl
-le-drop (suc k) a at m =
-    let e : a + at + 1 ≡ a + (at + 1) = omega arith in
-    rw (e, at-drop a at m, le-drop k a (at + 1) m) refl
+le-same zero l m at to h = refl
+le-same (suc k) l m at to h =
+    let p : at + 0 ≡ at = omega arith in
+    let q : to + 0 ≡ to = omega arith in
+    let first : getD l at 0 ≡ getD m to 0 = rw (p, q) at (h 0 (omega arith)) in
+    let next : (i : ℕ) → i < k → getD l (at + 1 + i) 0 ≡ getD m (to + 1 + i) 0 =
+    λ i less.
+    let r : at + suc i ≡ at + 1 + i = omega arith in
+    let s : to + suc i ≡ to + 1 + i = omega arith in
+    rw (r, s) at (h (suc i) (omega arith)) in
+    rw (first, le-same k l m (at + 1) (to + 1) next)
 
-module _ (m : List ℕ) (s : Shaped (viewOf m)) where
-  pub header-inside : headerSize ≤ length m
-  unfolding viewOf
-  header-inside = omega (arith, s .size)
-
-  pub node-inside : (n : ℕ) → n < viewOf m .count → nodeAt n + 196 ≤ length m
-  unfolding viewOf
-  node-inside n h = omega (arith, s .size)
-
-  pub slot-inside : (j : ℕ) → j < 8 * viewOf m .count → slotAt j + 24 ≤ length m
-  unfolding viewOf
-  slot-inside j h = omega (arith, s .size)
+-- what is dropped moves the places
+pub le-drop : (k a at : ℕ) (m : List ℕ) → leAt k (drop a m) at ≡ leAt k m (a + at)
+le-drop k a at m =
+    le-same k (drop a m) m at (a + at) (λ i less. let e : a + (at + i) ≡ a + at + i = omega arith in rw (getD-drop, e))

@@ -1,4 +1,4 @@
--- `floor::bytes::signed` meets its contract: the upper half is read through its complement.
+-- `words::read::signed` meets its contract: the upper half is read through its complement.
 -- Assumes nothing.
 use mathlib.Core.Path.{_≡_, ap}
 use Prim.Native.Nat.{_-_}
@@ -6,8 +6,8 @@ use native.Mathlib.Omega.{arith}
 use borrow.Author.Needs.{needs}
 use mir.Syntax.{w32}
 use mir.Val.{toZ}
-use Rattle.floor.proofs.bytes.signed.Statement.{statement}
-use Rattle.floor.proofs.bytes.signed.Tie as tie
+use Rattle.words.proofs.read.signed.Statement.{statement}
+use Rattle.words.proofs.read.signed.Tie as tie
 
 cast-result : tie.Need-cast-result
 cast-result c = search needs

@@ -1,12 +1,12 @@
--- `floor::bytes::i32_at` meets its contract: four bytes, read as two's complement.
+-- `words::read::i32_at` meets its contract: four bytes, read as two's complement.
 -- Assumes nothing.
 use mathlib.Core.Path.{_≡_, ap, _∙_}
 use mir.Facts.{toZ-ofZ}
 use mir.Syntax.{w32}
 use mir.Val.{toZ}
 use borrow.Author.Needs.{needs}
-use Rattle.floor.proofs.bytes.i32_at.Statement.{statement}
-use Rattle.floor.proofs.bytes.i32_at.Tie as tie
+use Rattle.words.proofs.read.i32_at.Statement.{statement}
+use Rattle.words.proofs.read.i32_at.Tie as tie
 
 u32-at-requires : tie.Need-u32-at-requires
 u32-at-requires c κs = search needs

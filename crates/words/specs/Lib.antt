@@ -1,0 +1,2 @@
+-- Little-endian numbers.
+pub mod Words
