@@ -68,6 +68,19 @@ cond-is true a b =
 cond-is false a b =
     record { sound = λ e. (λ f. absurd (false≢true f), λ _. b .sound e); complete = λ h. b .complete (h .1 refl) }
 
+-- the same where the choice is itself the test of a property
+pub if-is : (c : Bool) {s t : Bool} {C P Q : Type 0} → Exactly c C → Exactly s P → Exactly t Q → Exactly (cond c s t) ((C → P) × ((C → ⊥) → Q))
+if-is true d a b =
+    record {
+      sound = λ e. (λ _. a .sound e, λ n. absurd (n (d .sound refl)));
+      complete = λ h. a .complete (h .0 (d .sound refl));
+    }
+if-is false d a b =
+    record {
+      sound = λ e. (λ p. absurd (false≢true (d .complete p)), λ _. b .sound e);
+      complete = λ h. b .complete (h .1 (λ p. false≢true (d .complete p)));
+    }
+
 pub all-is : {p : ℕ → Bool} {P : ℕ → Type 0} → ((k : ℕ) → Exactly (p k) (P k)) → (n : ℕ) → Exactly (allBelow p n) ((k : ℕ) → k < n → P k)
 all-is {p} f n =
     record {

@@ -13,12 +13,8 @@ use lib.ListN.{length, getD, set}
 use lib.Seq.{getD-set-same, getD-set-other}
 use Rattle.numbers.specs.Below.{one, countBelow}
 use Rattle.numbers.proofs.Below.{count-more, count-skip}
-use Rattle.floor.specs.View.{View, filled, leaf, link}
+use Rattle.floor.specs.View.{View, leaf, link}
 use Rattle.rules.specs.Links.{names}
-
--- above the leaves every filled slot names a node
-pub link-above : (v : View) (j : ℕ) → leaf v (j / 8) ≡ false → link v j ≡ filled v j
-link-above v j e = rw e
 
 -- from any slot of a leaf to the next node
 pub leaf-skip : (v : View) (t j : ℕ) → leaf v (j / 8) ≡ true → countBelow (names v t) (8 * (j / 8) + 8) ≡ countBelow (names v t) j

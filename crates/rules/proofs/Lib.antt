@@ -1,4 +1,5 @@
 -- The laws of the rules.
+pub mod Linked
 pub mod Exact
 pub mod Verdicts
 pub mod Hull

@@ -1,14 +1,13 @@
 -- Rule 15: a filled slot above the leaves carries exactly the smallest box round all filled boxes of the node it names.
 use mathlib.Core.Path.{_≡_}
-use mathlib.Core.Bool.{Bool, true, cond, _&&_, _||_}
-use mathlib.Core.Logic.{_⊎_}
+use mathlib.Core.Bool.{Bool, true, cond, _||_}
 use Prim.Native.Nat.{ℕ, zero, suc, _+_, _*_, _<_}
 use lib.IntN.{ℤ, pos, negsuc}
 use lib.Signed.{leZ}
 use Rattle.numbers.specs.Below.{allBelow}
 use Rattle.measure.specs.declared.Bounds.{Bounds}
 use Rattle.measure.specs.declared.Span.{Span}
-use Rattle.floor.specs.View.{View, axisCount, filled, leaf}
+use Rattle.floor.specs.View.{View, axisCount, filled, leaf, link}
 use Rattle.rules.specs.Spans.{sameSpan}
 use Rattle.rules.specs.declared.boxes.Side.{Side}
 use Rattle.rules.specs.declared.boxes.Side.the-variants.{Low, High}
@@ -61,5 +60,5 @@ boxesOk v n = leaf v n || allBelow (λ i. tightOk v (8 * n + i)) 8
 -- the property; that `hull` is the smallest is shown by `hull-holds` and `hull-met`
 abbrev pub WellBoxed : View → ℕ → Type 0
 WellBoxed v n =
-    (v .level n ≡ 0)
-    ⊎ ((i : ℕ) → i < 8 → filled v (8 * n + i) ≡ true → (a : ℕ) → a < axisCount → v .span (8 * n + i) a ≡ hull v a (v .ref (8 * n + i)) 8)
+    (i : ℕ) → i < 8 → link v (8 * n + i) ≡ true
+    → (a : ℕ) → a < axisCount → v .span (8 * n + i) a ≡ hull v a (v .ref (8 * n + i)) 8

@@ -35,21 +35,26 @@ slotOk v j = cond (filled v j) (entryOk v j) (blankOk v j)
 unfoldable pub formOk : View → ℕ → Bool
 formOk v n = ltb (v .level n) (v .height) && v .nodeClear n && allBelow (λ i. slotOk v (8 * n + i)) 8
 
--- the property
-abbrev pub Refer : View → ℕ → Type 0
-Refer v j =
-    (leaf v (j / 8) ≡ true → (v .ref j ≡ 0 → ⊥) × (v .zone j < 32))
-    × (leaf v (j / 8) ≡ false → (v .ref j < v .count) × (v .zone j ≡ 0))
+-- the property: what a filled slot refers to
+pub record Refer (v : View) (j : ℕ) : Type 0 where
+  pub bay : leaf v (j / 8) ≡ true → (v .ref j ≡ 0 → ⊥) × (v .zone j < 32)
+  pub node : leaf v (j / 8) ≡ false → (v .ref j < v .count) × (v .zone j ≡ 0)
 
-abbrev pub Entry : View → ℕ → Type 0
-Entry v j = (((a : ℕ) → a < axisCount → spanIn (v .span j a) ≡ true) × Refer v j) × (v .slotClear j ≡ true)
+-- a filled slot in form
+pub record Entry (v : View) (j : ℕ) : Type 0 where
+  pub spans : (a : ℕ) → a < axisCount → spanIn (v .span j a) ≡ true
+  pub refer : Refer v j
+  pub clear : v .slotClear j ≡ true
 
-abbrev pub Blank : View → ℕ → Type 0
-Blank v j =
-    ((((a : ℕ) → a < axisCount → v .span j a ≡ zeroSpan) × (v .ref j ≡ 0)) × (v .zone j ≡ 0))
-    × (v .slotClear j ≡ true)
+-- an unfilled slot, all zero
+pub record Blank (v : View) (j : ℕ) : Type 0 where
+  pub spans : (a : ℕ) → a < axisCount → v .span j a ≡ zeroSpan
+  pub ref : v .ref j ≡ 0
+  pub zone : v .zone j ≡ 0
+  pub clear : v .slotClear j ≡ true
 
-abbrev pub InForm : View → ℕ → Type 0
-InForm v n =
-    ((v .level n < v .height) × (v .nodeClear n ≡ true))
-    × ((i : ℕ) → i < 8 → (filled v (8 * n + i) ≡ true → Entry v (8 * n + i)) × (filled v (8 * n + i) ≡ false → Blank v (8 * n + i)))
+pub record InForm (v : View) (n : ℕ) : Type 0 where
+  pub low : v .level n < v .height
+  pub clear : v .nodeClear n ≡ true
+  pub entries : (i : ℕ) → i < 8 → filled v (8 * n + i) ≡ true → Entry v (8 * n + i)
+  pub blanks : (i : ℕ) → i < 8 → filled v (8 * n + i) ≡ false → Blank v (8 * n + i)

@@ -20,7 +20,12 @@ unfoldable pub headerOk : View → Bool
 headerOk v = leb headerSize (v .size) && fieldsOk v
 
 -- the property
-abbrev pub HeaderRight : View → Type 0
-HeaderRight v =
-    (headerSize ≤ v .size)
-    × (((((((1 ≤ v .count) × (v .count ≤ 256)) × (v .root < v .count)) × (1 ≤ v .height)) × (v .height ≤ 6)) × (v .clear ≡ true)) × (v .size ≡ mapSize (v .count)))
+pub record HeaderRight (v : View) : Type 0 where
+  pub headed : headerSize ≤ v .size
+  pub some : 1 ≤ v .count
+  pub few : v .count ≤ 256
+  pub rooted : v .root < v .count
+  pub high : 1 ≤ v .height
+  pub low : v .height ≤ 6
+  pub clear : v .clear ≡ true
+  pub size : v .size ≡ mapSize (v .count)

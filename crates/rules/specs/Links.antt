@@ -1,8 +1,7 @@
 -- Rule 14: the root has level H-1 and no slot names it; each other node is named by exactly one inner slot; a named
 -- node's level is one less than that of the node naming it.
 use mathlib.Core.Path.{_≡_}
-use mathlib.Core.Bool.{Bool, true, false, cond, _&&_, _||_}
-use mathlib.Core.Logic.{_⊎_}
+use mathlib.Core.Bool.{Bool, true, cond, _&&_, _||_}
 use Prim.Native.Nat.{ℕ, _+_, _*_, _/_, _<_}
 use lib.Dec.{eqb}
 use Rattle.numbers.specs.Below.{allBelow, countBelow}
@@ -29,12 +28,8 @@ unfoldable pub linksOk : View → ℕ → Bool
 linksOk v n = namedOk v n && (leaf v n || allBelow (λ i. stepOk v (8 * n + i)) 8)
 
 -- the property
-abbrev pub Named : View → ℕ → Type 0
-Named v n =
-    (eqb n (v .root) ≡ true → (named v n ≡ 0) × (v .level n + 1 ≡ v .height))
-    × (eqb n (v .root) ≡ false → named v n ≡ 1)
-
-abbrev pub WellLinked : View → ℕ → Type 0
-WellLinked v n =
-    Named v n
-    × ((v .level n ≡ 0) ⊎ ((i : ℕ) → i < 8 → filled v (8 * n + i) ≡ true → v .level (v .ref (8 * n + i)) + 1 ≡ v .level ((8 * n + i) / 8)))
+pub record WellLinked (v : View) (n : ℕ) : Type 0 where
+  pub unnamed : n ≡ v .root → named v n ≡ 0
+  pub top : n ≡ v .root → v .level n + 1 ≡ v .height
+  pub once : (n ≡ v .root → ⊥) → named v n ≡ 1
+  pub falls : (i : ℕ) → i < 8 → link v (8 * n + i) ≡ true → v .level (v .ref (8 * n + i)) + 1 ≡ v .level n

@@ -1,7 +1,7 @@
 -- The map check's answer: the first broken rule, each tried over the whole map before the next, and the lowest node at fault.
 use mathlib.Core.Path.{_≡_}
-use mathlib.Core.Bool.{Bool, true, false, cond}
-use mathlib.Core.List.{List, [], _∷_}
+use mathlib.Core.Bool.{Bool, cond}
+use mathlib.Core.List.{List, [], _∷_, _++_, List·Memᴰ}
 use Prim.Native.Nat.{ℕ, _<_}
 use lib.Dec.{ltb}
 use Rattle.numbers.specs.Below.{firstFail}
@@ -44,6 +44,14 @@ ruleOk Links v n = linksOk v n
 ruleOk Boxes v n = boxesOk v n
 ruleOk Bays v n = baysOk v n
 
+-- the property that it tests
+abbrev pub RuleKept : Rule → View → ℕ → Type 0
+RuleKept Form v n = InForm v n
+RuleKept Fill v n = WellFilled v n
+RuleKept Links v n = WellLinked v n
+RuleKept Boxes v n = WellBoxed v n
+RuleKept Bays v n = BaysApart v n
+
 -- the lowest node that breaks a rule, or N
 abbrev pub lowestFault : Rule → View → ℕ
 lowestFault r v = firstFail (ruleOk r v) (v .count)
@@ -59,11 +67,27 @@ firstBroken v (r ∷ rs) = cond (ltb (lowestFault r v) (v .count)) (Broken r (lo
 unfoldable pub verdictOf : List ℕ → Verdict
 verdictOf m = cond (headerOk (viewOf m)) (firstBroken (viewOf m) order) BadHeader
 
+-- every node keeps a rule
+abbrev pub KeptAll : Rule → View → Type 0
+KeptAll r v = (n : ℕ) → n < v .count → RuleKept r v n
+
 -- the property: a map that keeps every rule
 pub record Keeps (v : View) : Type 0 where
   pub header : HeaderRight v
-  pub form : (n : ℕ) → n < v .count → InForm v n
-  pub fill : (n : ℕ) → n < v .count → WellFilled v n
-  pub links : (n : ℕ) → n < v .count → WellLinked v n
-  pub boxes : (n : ℕ) → n < v .count → WellBoxed v n
-  pub bays : (n : ℕ) → n < v .count → BaysApart v n
+  pub rules : (r : Rule) → KeptAll r v
+
+-- r is the first rule of rs that a node breaks, and n the lowest node that breaks it
+pub record Breaks (v : View) (rs : List Rule) (r : Rule) (n : ℕ) : Type 0 where
+  pub earlier : List Rule
+  pub later : List Rule
+  pub split : rs ≡ earlier ++ (r ∷ later)
+  pub held : (q : Rule) → List·Memᴰ q earlier → KeptAll q v
+  pub within : n < v .count
+  pub fails : RuleKept r v n → ⊥
+  pub below : (k : ℕ) → k < n → RuleKept r v k
+
+-- what a verdict says of a map
+abbrev pub Means : View → Verdict → Type 0
+Means v Accepted = Keeps v
+Means v BadHeader = HeaderRight v → ⊥
+Means v (Broken r n) = HeaderRight v × Breaks v order r n

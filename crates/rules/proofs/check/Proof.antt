@@ -10,8 +10,9 @@ use borrow.Author.Tests.{not-true, not-false}
 use Rattle.floor.specs.View.{View, viewOf, filled, leaf, link, Shaped}
 use Rattle.rules.specs.declared.Rule.the-variants.{Form, Fill, Links, Boxes, Bays}
 use Rattle.rules.specs.Header.{headerOk}
-use Rattle.rules.specs.Verdicts.{ruleNumber, order, firstBroken, verdictOf}
-use Rattle.rules.proofs.Verdicts.{Kept, stop, more, kept, shaped, form-links}
+use Rattle.rules.specs.Verdicts.{ruleNumber, order, firstBroken, verdictOf, KeptAll}
+use Rattle.rules.proofs.Exact.{header-exactly}
+use Rattle.rules.proofs.Verdicts.{stop, more, kept, shaped, form-links}
 use borrow.Author.Needs.{needs}
 use Rattle.rules.proofs.check.Statement.{statement}
 use Rattle.rules.proofs.check.Tie as tie
@@ -25,7 +26,7 @@ right : (c : tie.Else1) → headerOk (view c) ≡ true
 right c = sym (c .before .header-ok .ensures) ∙ not-false _ (c .if1 .left)
 
 shape : (c : tie.Else1) → Shaped (view c)
-shape c = shaped (view c) (right c)
+shape c = shaped (header-exactly (view c) .sound (right c))
 
 past-header : (c : tie.Else1) → verdictOf (c .before .before .before .args .map .now) ≡ firstBroken (view c) order
 unfolding verdictOf
@@ -36,7 +37,7 @@ past-header c = rw (right c)
 abbrev header-of : tie.Else2 → tie.Else1
 header-of c = c .before .before .before
 
-form-kept : (c : tie.Else2) → Kept (view (header-of c)) Form
+form-kept : (c : tie.Else2) → KeptAll Form (view (header-of c))
 form-kept c = kept _ Form (c .before .first-fault .ensures) (omega (arith, c .before .before .count-of .ensures))
 
 past-form : (c : tie.Else2) → verdictOf (header-of c .before .before .before .args .map .now) ≡ firstBroken (view (header-of c)) (Fill ∷ Links ∷ Boxes ∷ Bays ∷ [])

@@ -2,11 +2,10 @@
 -- Assumes nothing.
 use mathlib.Core.Path.{_≡_, sym, ap, _∙_}
 use native.Mathlib.Omega.{arith}
-use Rattle.numbers.proofs.Below.{first-all}
 use Rattle.floor.specs.View.{viewOf}
 use Rattle.rules.specs.declared.Rule.the-variants.{Bays}
-use Rattle.rules.specs.Verdicts.{ruleNumber, ruleOk}
-use Rattle.rules.proofs.Verdicts.{no-twins}
+use Rattle.rules.specs.Verdicts.{ruleNumber}
+use Rattle.rules.proofs.Verdicts.{none-at-fault, no-twins}
 use borrow.Author.Needs.{needs}
 use Rattle.rules.proofs.first_twin.Statement.{statement}
 use Rattle.rules.proofs.first_twin.Tie as tie
@@ -21,7 +20,7 @@ returns : tie.Need-returns
 returns c =
     let flag = c .before .before in
     let v = viewOf (flag .before .before .args .map .now) in
-    c .count-of .ensures ∙ sym (first-all (ruleOk Bays v) (v .count) (no-twins v (flag .distinct .ensures (c .before .if1 .taken))))
+    c .count-of .ensures ∙ sym (none-at-fault v Bays (no-twins v (flag .distinct .ensures (c .before .if1 .taken))))
 
 first-fault-requires : tie.Need-first-fault-requires
 first-fault-requires c κs =

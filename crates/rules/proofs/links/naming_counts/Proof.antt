@@ -9,7 +9,8 @@ use Rattle.numbers.specs.Below.{one, countBelow}
 use Rattle.numbers.proofs.Below.{count-most, one-most}
 use Rattle.floor.specs.View.{viewOf}
 use Rattle.rules.specs.Links.{names, named}
-use Rattle.rules.proofs.Counts.{count-slot, link-above, leaf-skip}
+use Rattle.rules.proofs.Linked.{link-above}
+use Rattle.rules.proofs.Counts.{count-slot, leaf-skip}
 use borrow.Author.Needs.{needs}
 use Rattle.rules.proofs.links.naming_counts.Statement.{statement}
 use Rattle.rules.proofs.links.naming_counts.Tie as tie
