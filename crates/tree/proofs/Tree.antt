@@ -1,87 +1,78 @@
 -- What the rules make of a view: a tree. Every slot lies below the root, on one way only, and within every box on that
 -- way; no two bays are one. Assumes nothing.
 use mathlib.Core.Path.{_≡_, refl, sym, ap, _∙_}
-use mathlib.Core.Bool.{true, false, not}
-use mathlib.Core.Logic.{_⊎_, ⊎-elim}
+use mathlib.Core.Bool.{true}
+use mathlib.Core.Logic.{⊎-elim}
 use Prim.Native.Nat.{ℕ, zero, suc, _+_, _*_, _-_, _/_, _%_, _<_, _≤_}
 use native.Mathlib.Omega.{arith}
 use native.Mathlib.Decide.{ℕ-discrete}
 use lib.Dec.{eqb}
-use borrow.Author.Tests.{eqb-true, eqb-false, eq-eqb, ne-eqb, not-true}
+use borrow.Author.Tests.{eqb-true, eq-eqb}
 use Rattle.numbers.proofs.Tests.{both}
 use Rattle.numbers.proofs.Below.{ordered, count-some, count-two, count-found}
 use Rattle.numbers.proofs.Exactly.{by-eights}
 use Rattle.numbers.proofs.Order.{test-le}
 use Rattle.measure.specs.Axis.{spanIn}
-use Rattle.floor.specs.View.{View, axisCount, filled, leaf, bay, link}
+use Rattle.floor.specs.View.{View, axisCount, filled, bay, link}
+use Rattle.rules.specs.declared.Rule.the-variants.{Form, Links, Boxes, Bays}
 use Rattle.rules.specs.declared.boxes.Side.{Side}
 use Rattle.rules.specs.declared.boxes.Side.the-variants.{Low, High}
 use Rattle.rules.specs.Form.{Entry}
 use Rattle.rules.specs.Links.{names, named}
 use Rattle.rules.specs.Boxes.{asFar, endOf, hull}
-use Rattle.rules.specs.Verdicts.{Keeps}
+use Rattle.rules.specs.Verdicts.{KeptAll, Keeps}
+use Rattle.rules.proofs.Linked.{link-filled}
 use Rattle.rules.proofs.Hull.{far-through, hull-holds}
+use Rattle.rules.proofs.Verdicts.{form-links}
+use Rattle.tree.specs.Treelike.{Treelike}
 use Rattle.tree.specs.Below.{Under, here, down, InBox}
 
-module _ (v : View) (j : ℕ) (l : link v j ≡ true) where
-  link-parts : (not (leaf v (j / 8)) ≡ true) × (filled v j ≡ true)
-  link-parts = both (not (leaf v (j / 8))) (filled v j) l
+pub keeps-treelike : {v : View} → Keeps v → Treelike v
+keeps-treelike k =
+    record { rooted = k .header .rooted; form = k .rules Form; links = k .rules Links; boxes = k .rules Boxes }
 
-  link-filled : filled v j ≡ true
-  link-filled = link-parts .1
+-- bays with one number are one slot
+pub bays-apart : (v : View) → KeptAll Bays v → (j k : ℕ) → j < 8 * v .count → k < 8 * v .count → bay v j ≡ true → bay v k ≡ true → v .ref j ≡ v .ref k → j ≡ k
+bays-apart v apart j k h =
+    by-eights
+    (λ j. k < 8 * v .count → bay v j ≡ true → bay v k ≡ true → v .ref j ≡ v .ref k → j ≡ k)
+    (v .count)
+    (λ n l i m. apart n l i k m)
+    j
+    h
 
-  link-inner : leaf v (j / 8) ≡ false
-  link-inner = not-true (leaf v (j / 8)) (link-parts .0)
-
--- a slot that names a node is no leaf's, so what a rule says of the nodes above the leaves holds of it
-each-link : (v : View) (P : ℕ → Type 0) → ((n : ℕ) → n < v .count → (v .level n ≡ 0) ⊎ ((i : ℕ) → i < 8 → filled v (8 * n + i) ≡ true → P (8 * n + i))) → (j : ℕ) → j < 8 * v .count → link v j ≡ true → P j
-each-link v P f j h l =
-    let e : 8 * (j / 8) + j % 8 ≡ j = omega arith in
-    ⊎-elim
-    (λ z. absurd (eqb-false (v .level (j / 8)) 0 (link-inner v j l) z))
-    (λ g. rw e at (g (j % 8) (omega arith) (rw e (link-filled v j l))))
-    (f (j / 8) (omega arith))
-
-module _ (v : View) (keeps : Keeps v) where
+module _ (v : View) (tree : Treelike v) where
   -- ---- what the rules say, slot by slot
 
-  entry : (j : ℕ) → j < 8 * v .count → filled v j ≡ true → Entry v j
-  entry = by-eights (λ j. filled v j ≡ true → Entry v j) (v .count) (λ n h i k. keeps .form n h .1 i k .0)
+  pub entry : (j : ℕ) → j < 8 * v .count → filled v j ≡ true → Entry v j
+  entry = by-eights (λ j. filled v j ≡ true → Entry v j) (v .count) (λ n h. tree .form n h .entries)
 
   pub entry-in-range : (j a : ℕ) → j < 8 * v .count → a < axisCount → filled v j ≡ true → spanIn (v .span j a) ≡ true
-  entry-in-range j a h k f = entry j h f .0 .0 a k
+  entry-in-range j a h k f = entry j h f .spans a k
 
   pub link-leads : (j : ℕ) → j < 8 * v .count → link v j ≡ true → v .ref j < v .count
-  link-leads j h l = entry j h (link-filled v j l) .0 .1 .1 (link-inner v j l) .0
+  link-leads = form-links v (tree .form)
 
   pub link-falls : (j : ℕ) → j < 8 * v .count → link v j ≡ true → v .level (v .ref j) + 1 ≡ v .level (j / 8)
-  link-falls = each-link v (λ j. v .level (v .ref j) + 1 ≡ v .level (j / 8)) (λ n h. keeps .links n h .1)
+  link-falls =
+      by-eights (λ j. link v j ≡ true → v .level (v .ref j) + 1 ≡ v .level (j / 8)) (v .count) (λ n h i k l.
+      let e : (8 * n + i) / 8 ≡ n = omega arith in
+      tree .links n h .falls i k l ∙ ap (v .level) (sym e))
 
-  link-tight : (j : ℕ) → j < 8 * v .count → link v j ≡ true → (a : ℕ) → a < axisCount → v .span j a ≡ hull v a (v .ref j) 8
-  link-tight = each-link v (λ j. (a : ℕ) → a < axisCount → v .span j a ≡ hull v a (v .ref j) 8) (keeps .boxes)
-
-  pub bays-apart : (j k : ℕ) → j < 8 * v .count → k < 8 * v .count → bay v j ≡ true → bay v k ≡ true → v .ref j ≡ v .ref k → j ≡ k
-  bays-apart j k h =
-      by-eights
-      (λ j. k < 8 * v .count → bay v j ≡ true → bay v k ≡ true → v .ref j ≡ v .ref k → j ≡ k)
-      (v .count)
-      (λ n l i m. keeps .bays n l i k m)
-      j
-      h
+  pub link-tight : (j : ℕ) → j < 8 * v .count → link v j ≡ true → (a : ℕ) → a < axisCount → v .span j a ≡ hull v a (v .ref j) 8
+  link-tight =
+      by-eights (λ j. link v j ≡ true → (a : ℕ) → a < axisCount → v .span j a ≡ hull v a (v .ref j) 8) (v .count) (tree .boxes)
 
   -- ---- the slot that names a node: none names the root, and just one any other
 
-  pub rooted : v .root < v .count
-  rooted = let h = keeps .header in omega arith
-
   node-low : (n : ℕ) → n < v .count → v .level n < v .height
-  node-low n h = keeps .form n h .0 .0
+  node-low n h = tree .form n h .low
 
-  root-unnamed : named v (v .root) ≡ 0
-  root-unnamed = keeps .links (v .root) rooted .0 .0 (eq-eqb (v .root) (v .root) refl) .0
+  pub root-unnamed : named v (v .root) ≡ 0
+  root-unnamed = tree .links (v .root) (tree .rooted) .unnamed refl
 
-  named-once : (t : ℕ) → t < v .count → (t ≡ v .root → ⊥) → named v t ≡ 1
-  named-once t h d = keeps .links t h .0 .1 (ne-eqb t (v .root) d)
+  pub named-once : (t : ℕ) → t < v .count → (t ≡ v .root → ⊥) → named v t ≡ 1
+  named-once t h = tree .links t h .once
 
   -- the slot that names a node other than the root
   record Parent (t : ℕ) : Type 0 where
@@ -106,7 +97,7 @@ module _ (v : View) (keeps : Keeps v) where
       }
 
   -- two slots that lead to one node are one slot
-  parent-alone : (i j : ℕ) → i < 8 * v .count → j < 8 * v .count → link v i ≡ true → link v j ≡ true → v .ref i ≡ v .ref j → i ≡ j
+  pub parent-alone : (i j : ℕ) → i < 8 * v .count → j < 8 * v .count → link v i ≡ true → link v j ≡ true → v .ref i ≡ v .ref j → i ≡ j
   unfolding named
   parent-alone i j hi hj li lj e =
       ⊎-elim (λ l. absurd (twice i j l hj ni nj)) (⊎-elim (λ q. q) (λ l. absurd (twice j i l hi nj ni))) (ordered i j)

@@ -1,3 +1,4 @@
--- The words for what lies below a node, and document 01's example maps.
+-- What makes a map a tree, the words for what lies below a node, and document 01's example maps.
+pub mod Treelike
 pub mod Below
 pub mod Examples

@@ -1,0 +1,11 @@
+-- What of the rules makes a map a tree. The laws of the tree rest on this alone, so that a rule can rest on them.
+use Prim.Native.Nat.{_<_}
+use Rattle.floor.specs.View.{View}
+use Rattle.rules.specs.declared.Rule.the-variants.{Form, Links, Boxes}
+use Rattle.rules.specs.Verdicts.{KeptAll}
+
+pub record Treelike (v : View) : Type 0 where
+  pub rooted : v .root < v .count
+  pub form : KeptAll Form v
+  pub links : KeptAll Links v
+  pub boxes : KeptAll Boxes v
