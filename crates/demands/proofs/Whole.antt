@@ -1,6 +1,6 @@
 -- The badge's whole list: exactly the visible bays, in strict order, each bay once, of numbers that fit, and the same for
 -- maps that show the same bays. Assumes nothing.
-use Prim.Native.Nat.{ℕ, zero, suc, _+_, _*_, _/_, _%_, _^_, _≤_, _<_}
+use Prim.Native.Nat.{ℕ, zero, suc, _+_, _*_, _/_, _^_, _≤_, _<_}
 use native.Mathlib.Omega.{arith, pow-step}
 use mathlib.Core.Path.{_≡_, refl, sym, ap, subst, _∙_}
 use mathlib.Core.List.{List, [], _∷_, map, List·Memᴰ, List·Memᴰ·head, List·Memᴰ·tail, Memᴰ·map, Memᴰ·of-map, Memᴰ·cast}
@@ -11,8 +11,9 @@ use Rattle.measure.specs.declared.Point.{Point}
 use Rattle.measure.specs.Answer.{pointOk}
 use Rattle.floor.specs.View.{View, viewOf, slotAt, leaf, bay, filled, boundsOf}
 use Rattle.words.specs.Words.{leAt}
+use Rattle.rules.specs.declared.Rule.the-variants.{Bays}
 use Rattle.rules.specs.Verdicts.{Keeps}
-use Rattle.tree.proofs.Tree.{bays-apart}
+use Rattle.tree.proofs.Tree.{keeps-treelike, entry, bays-apart}
 use Rattle.order.specs.Order.{only, gather, sort, Same, Strict, Distinct}
 use Rattle.order.proofs.Place.{by-test, lt-self}
 use Rattle.order.proofs.Only.{only-out, only-all, gather-each}
@@ -92,9 +93,7 @@ module _ (v : View) (keeps : Keeps v) where
   bay-form : (j : ℕ) → j < 8 * v .count → bay v j ≡ true → (v .ref j ≡ 0 → ⊥) × (v .zone j < 32)
   bay-form j h b =
       let p = both (leaf v (j / 8)) (filled v j) b in
-      let e : 8 * (j / 8) + j % 8 ≡ j = omega arith in
-      let form = keeps .form (j / 8) (omega arith) .1 (j % 8) (omega arith) .0 in
-      (rw e at form) (p .1) .0 .1 .0 (p .0)
+      entry v (keeps-treelike keeps) j h (p .1) .refer .bay (p .0)
 
 module _ (m : List ℕ) (yes : accepted m ≡ true) (badge : ℕ) (point : Point) where
   abbrev here : View
@@ -146,7 +145,7 @@ module _ (m : List ℕ) (yes : accepted m ≡ true) (badge : ℕ) (point : Point
           let s = from-slot x i in
           let t = from-slot y j in
           let numbers : here .ref (s .0) ≡ here .ref (t .0) = ap (λ (r : NearBay). r .bay) (sym (s .3)) ∙ q ∙ ap (λ (r : NearBay). r .bay) (t .3) in
-          let slots : s .0 ≡ t .0 = bays-apart here keeps (s .0) (t .0) (s .1) (t .1) (s .2) (t .2) numbers in
+          let slots : s .0 ≡ t .0 = bays-apart here (keeps .rules Bays) (s .0) (t .0) (s .1) (t .1) (s .2) (t .2) numbers in
           s .3 ∙ ap (nearBay here (distanceTo here point)) slots ∙ sym (t .3)
 
       go : (l : List NearBay) → Strict earlier l → ((x y : NearBay) → List·Memᴰ x l → List·Memᴰ y l → x .bay ≡ y .bay → x ≡ y) → NoneTwice (numbersOf l)

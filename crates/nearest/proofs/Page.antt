@@ -10,7 +10,7 @@ use Rattle.numbers.proofs.Tests.{both}
 use Rattle.floor.specs.View.{View, filled, leaf, link}
 use Rattle.rules.specs.Verdicts.{Keeps}
 use Rattle.tree.specs.Below.{Under}
-use Rattle.tree.proofs.Tree.{link-leads}
+use Rattle.tree.proofs.Tree.{keeps-treelike, link-leads}
 use Rattle.measure.specs.declared.Point.{Point}
 use Rattle.order.specs.Order.{keepAll, only, Least, Same}
 use Rattle.order.proofs.Only.{only-both}
@@ -60,7 +60,7 @@ module _ (v : View) (keeps : Keeps v) (distance : ℕ → ℕ) where
   slot-far grows zero j h f e x m = rw (alone m) (omega arith)
   slot-far grows (suc l) j h f e x m =
       let k = slot-link v keeps distance j l e f in
-      far (from-node v keeps distance l (v .ref j) (link-leads v keeps j h k) (fallen v keeps distance j l h e k) x m)
+      far (from-node v keeps distance l (v .ref j) (link-leads v (keeps-treelike keeps) j h k) (fallen v keeps distance j l h e k) x m)
     where
       far : From v keeps distance (v .ref j) x → distance j ≤ x .dsq .0
       far o = rw (o .is) (grows j (o .slot) h (o .inside) (slot-link v keeps distance j l e f) (both (leaf v (o .slot / 8)) (filled v (o .slot)) (o .isBay) .1) (o .under))

@@ -9,12 +9,13 @@ use Rattle.measure.specs.Axes.{Each}
 use Rattle.measure.specs.Answer.{axesOf}
 use Rattle.numbers.proofs.Tests.{both}
 use Rattle.floor.specs.View.{View, Shaped, axisCount, boundsOf, filled}
-use Rattle.tree.proofs.Tree.{entry-in-range}
+use Rattle.rules.proofs.Verdicts.{shaped}
+use Rattle.tree.proofs.Tree.{keeps-treelike, entry-in-range}
 use Rattle.nearest.specs.Ground.{Ground}
 
 module _ (v : View) (p : Point) (g : Ground v p) where
   pub ground-shaped : Shaped v
-  ground-shaped = let h = g .keeps .header in record { few = omega arith; rooted = omega arith; size = h .1 .1 }
+  ground-shaped = shaped (g .keeps .header)
 
   pub slot-ready : (j : ℕ) → j < 8 * v .count → filled v j ≡ true → Each Ready (axesOf p (boundsOf v j))
   unfolding pointIn
@@ -23,4 +24,4 @@ module _ (v : View) (p : Point) (g : Ground v p) where
       (ready 0 (omega arith) (p .x) (on .0), (ready 1 (omega arith) (p .y) (on .1), tt))
     where
       ready : (a : ℕ) → a < axisCount → (at : _) → inRange at ≡ true → Ready (record { at = at; span = v .span j a })
-      ready a k at e = record { point = e; span = entry-in-range v (g .keeps) j a h k f }
+      ready a k at e = record { point = e; span = entry-in-range v (keeps-treelike (g .keeps)) j a h k f }

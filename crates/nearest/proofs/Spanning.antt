@@ -11,9 +11,10 @@ use lib.Dec.{eqb}
 use borrow.Author.Tests.{eqb-true, eqb-false, eq-eqb, ne-eqb}
 use Rattle.numbers.proofs.Tests.{both}
 use Rattle.floor.specs.View.{View, filled, leaf, bay, link}
+use Rattle.rules.specs.declared.Rule.the-variants.{Bays}
 use Rattle.rules.specs.Verdicts.{Keeps}
 use Rattle.tree.specs.Below.{Under, here, down}
-use Rattle.tree.proofs.Tree.{rooted, link-leads, link-falls, covered, siblings-apart, bays-apart}
+use Rattle.tree.proofs.Tree.{keeps-treelike, link-leads, link-falls, covered, siblings-apart, bays-apart}
 use Rattle.order.specs.Order.{Apart, Cross, Distinct, Same, gather}
 use Rattle.order.proofs.Place.{by-test}
 use Rattle.order.proofs.Only.{gather-each}
@@ -48,7 +49,7 @@ module _ (v : View) (keeps : Keeps v) (distance : ℕ → ℕ) where
   slot-link j l e f = rw (ne-eqb (v .level (j / 8)) 0 (omega (arith, e)), f)
 
   pub fallen : (j l : ℕ) → j < 8 * v .count → v .level (j / 8) ≡ suc l → link v j ≡ true → v .level (v .ref j) ≡ l
-  fallen j l h e k = omega (arith, link-falls v keeps j h k, e)
+  fallen j l h e k = omega (arith, link-falls v (keeps-treelike keeps) j h k, e)
 
   -- ---- what is below comes from a slot below
 
@@ -69,7 +70,7 @@ module _ (v : View) (keeps : Keeps v) (distance : ℕ → ℕ) where
   from-slot (suc l) j h f e x m =
       let k = slot-link j l e f in
       raised j x h k
-      (from-parts l (v .ref j) (link-leads v keeps j h k) (λ i b q g y n. rw q at (from-slot l i b g (rw q (fallen j l h e k)) y n)) x m)
+      (from-parts l (v .ref j) (link-leads v (keeps-treelike keeps) j h k) (λ i b q g y n. rw q at (from-slot l i b g (rw q (fallen j l h e k)) y n)) x m)
 
   pub from-node : (l n : ℕ) → n < v .count → v .level n ≡ l → (x : NearBay) → List·Memᴰ x (nodeBays v distance l n) → From n x
   from-node l n h e = from-parts l n h (λ j b q f x m. rw q at (from-slot l j b f (rw q e) x m))
@@ -88,7 +89,7 @@ module _ (v : View) (keeps : Keeps v) (distance : ℕ → ℕ) where
       let z : v .level n ≡ 0 = ap (v .level) (sym q) ∙ eqb-true (v .level (k / 8)) 0 (p .0) in
       rw z (in-part 0 n k (nearBay v distance k) q (p .1) (List·Memᴰ·head refl))
   to-node n k h b (down j i l q u) =
-      let s : v .level n ≡ suc (v .level (v .ref j)) = omega (arith, ap (v .level) q, link-falls v keeps j i l) in
+      let s : v .level n ≡ suc (v .level (v .ref j)) = omega (arith, ap (v .level) q, link-falls v (keeps-treelike keeps) j i l) in
       rw s (in-part (suc (v .level (v .ref j))) n j (nearBay v distance k) q (both (not (leaf v (j / 8))) (filled v j) l .1) (to-node (v .ref j) k h b u))
 
   -- ---- each once
@@ -96,7 +97,7 @@ module _ (v : View) (keeps : Keeps v) (distance : ℕ → ℕ) where
   -- bays of different slots are told apart
   slots-apart : (i j : ℕ) → i < 8 * v .count → j < 8 * v .count → bay v i ≡ true → bay v j ≡ true → (i ≡ j → ⊥)
       → Apart earlier (nearBay v distance i) (nearBay v distance j)
-  slots-apart i j h k b c ne = told-apart (nearBay v distance i) (nearBay v distance j) (λ e. ne (bays-apart v keeps i j h k b c e))
+  slots-apart i j h k b c ne = told-apart (nearBay v distance i) (nearBay v distance j) (λ e. ne (bays-apart v (keeps .rules Bays) i j h k b c e))
 
   from-apart : (m n : ℕ) (x y : NearBay) (o : From m x) (p : From n y) → (o .slot ≡ p .slot → ⊥) → Apart earlier x y
   from-apart m n x y o p ne = rw (o .is, p .is) (slots-apart (o .slot) (p .slot) (o .inside) (p .inside) (o .isBay) (p .isBay) ne)
@@ -110,10 +111,10 @@ module _ (v : View) (keeps : Keeps v) (distance : ℕ → ℕ) where
   slots-cross (suc l) i j hi hj fi fj q e ne x y m k =
       let li = slot-link i l (ap (v .level) q ∙ e) fi in
       let lj = slot-link j l e fj in
-      let o = from-node l (v .ref i) (link-leads v keeps i hi li) (fallen i l hi (ap (v .level) q ∙ e) li) x m in
-      let p = from-node l (v .ref j) (link-leads v keeps j hj lj) (fallen j l hj e lj) y k in
+      let o = from-node l (v .ref i) (link-leads v (keeps-treelike keeps) i hi li) (fallen i l hi (ap (v .level) q ∙ e) li) x m in
+      let p = from-node l (v .ref j) (link-leads v (keeps-treelike keeps) j hj lj) (fallen j l hj e lj) y k in
       from-apart (v .ref i) (v .ref j) x y o p
-      (λ s. ne (siblings-apart v keeps (p .slot) i j hi hj li lj q (rw s at (o .under)) (p .under)))
+      (λ s. ne (siblings-apart v (keeps-treelike keeps) (p .slot) i j hi hj li lj q (rw s at (o .under)) (p .under)))
 
   pub parts-cross : (l n : ℕ) → n < v .count → v .level n ≡ l → (a b : ℕ) → a < 8 → b < 8 → (a ≡ b → ⊥)
       → Cross earlier (partBays v distance l n a) (partBays v distance l n b)
@@ -141,7 +142,7 @@ module _ (v : View) (keeps : Keeps v) (distance : ℕ → ℕ) where
   slot-distinct (suc l) j h f e =
       let k = slot-link j l e f in
       let g = fallen j l h e k in
-      parts-distinct l (v .ref j) (link-leads v keeps j h k) g (λ i b q t. slot-distinct l i b t (rw q g))
+      parts-distinct l (v .ref j) (link-leads v (keeps-treelike keeps) j h k) g (λ i b q t. slot-distinct l i b t (rw q g))
 
   node-distinct : (l n : ℕ) → n < v .count → v .level n ≡ l → Distinct earlier (nodeBays v distance l n)
   node-distinct l n h e = parts-distinct l n h e (λ j b q f. slot-distinct l j b f (rw q e))
@@ -149,7 +150,7 @@ module _ (v : View) (keeps : Keeps v) (distance : ℕ → ℕ) where
   -- ---- the root
 
   pub root-distinct : Distinct earlier (nodeBays v distance (v .level (v .root)) (v .root))
-  root-distinct = node-distinct (v .level (v .root)) (v .root) (rooted v keeps) refl
+  root-distinct = node-distinct (v .level (v .root)) (v .root) (keeps .header .rooted) refl
 
   pub flat-distinct : Distinct earlier (allBays v distance)
   unfolding allBays Distinct
@@ -167,7 +168,7 @@ module _ (v : View) (keeps : Keeps v) (distance : ℕ → ℕ) where
   -- going down from the root reaches every bay, and nothing else
   pub spanning : Same (nodeBays v distance (v .level (v .root)) (v .root)) (allBays v distance)
   unfolding allBays
-  spanning = record { there = λ x m. listed x (from-node (v .level (v .root)) (v .root) (rooted v keeps) refl x m); back = gather-each Reached (bayIn v distance) (8 * v .count) reached }
+  spanning = record { there = λ x m. listed x (from-node (v .level (v .root)) (v .root) (keeps .header .rooted) refl x m); back = gather-each Reached (bayIn v distance) (8 * v .count) reached }
     where
       Reached : NearBay → Type 0
       Reached x = List·Memᴰ x (nodeBays v distance (v .level (v .root)) (v .root))
@@ -178,4 +179,4 @@ module _ (v : View) (keeps : Keeps v) (distance : ℕ → ℕ) where
       reached : (j : ℕ) → j < 8 * v .count → (x : NearBay) → List·Memᴰ x (bayIn v distance j) → Reached x
       reached j h x m =
           let o = chosen-out (bay v j) (nearBay v distance j ∷ []) x m in
-          rw (alone (o .1)) (to-node (v .root) j h (o .0) (covered v keeps j h))
+          rw (alone (o .1)) (to-node (v .root) j h (o .0) (covered v (keeps-treelike keeps) j h))

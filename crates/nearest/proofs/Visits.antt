@@ -16,7 +16,7 @@ use Rattle.numbers.proofs.Below.{count-less}
 use Rattle.measure.specs.declared.SquaredMm.{SquaredMm}
 use Rattle.floor.specs.View.{View, filled}
 use Rattle.rules.specs.Verdicts.{Keeps}
-use Rattle.tree.proofs.Tree.{link-leads}
+use Rattle.tree.proofs.Tree.{keeps-treelike, link-leads}
 use Rattle.order.specs.Order.{keepAll, only, gather, Least}
 use Rattle.order.proofs.Place.{by-test}
 use Rattle.order.proofs.Only.{only-out, gather-none, gather-each}
@@ -84,7 +84,7 @@ module _ (v : View) (keeps : Keeps v) (distance : ℕ → ℕ) (l node i : ℕ) 
   at-level = let here : (8 * node + i) / 8 ≡ node = omega arith in ap (v .level) here ∙ lev ∙ (omega arith)
 
   pub child-there : v .ref (8 * node + i) < v .count
-  child-there = link-leads v keeps (8 * node + i) (omega arith) (slot-link v keeps distance (8 * node + i) (l - 1) at-level f)
+  child-there = link-leads v (keeps-treelike keeps) (8 * node + i) (omega arith) (slot-link v keeps distance (8 * node + i) (l - 1) at-level f)
 
   pub child-level : v .level (v .ref (8 * node + i)) ≡ l - 1
   child-level =
