@@ -67,7 +67,8 @@ fn distinct_sorted(map: &[u8]) -> bool
     all_found(map, Way::Sorted, &sorted, n)
 }
 
-// Whether a certificate was found that no bay number stands twice. It is found whenever that is so.
+// Whether a certificate was found that no bay number stands twice. Yes shows that it is so; no shows nothing, and the
+// caller then goes by the definition.
 pub fn distinct(map: &[u8]) -> bool
     requires { ⌜ Shaped (viewOf (now map)) ⌝ }
     ensures { λ r. ⌜ (r ≡ true → NoTwins (viewOf (now (map .entry)))) ⌝ }

@@ -1,20 +1,19 @@
 -- Each rule's test holds exactly when its property does.
 -- Assumes nothing.
 use mathlib.Core.Path.{_≡_, refl, sym, ap, ap₂, _∙_}
-use mathlib.Core.Bool.{Bool, true, false, not, cond, _||_, true≢false}
+use mathlib.Core.Bool.{Bool, true, false, cond, _||_, true≢false}
 use mathlib.Core.Logic.{_⊎_, inl, inr}
 use Prim.Native.Nat.{ℕ, _+_, _*_, _/_, _<_}
-use native.Mathlib.Decide.{ℕ-discrete}
 use native.Mathlib.Omega.{arith}
 use lib.IntN.{ℤ}
 use lib.Signed.{leZ}
 use Rattle.numbers.specs.Below.{allBelow}
 use Rattle.numbers.specs.Exactly.{Exactly}
 use Rattle.numbers.proofs.Order.{le-self, le-both}
-use Rattle.numbers.proofs.Exactly.{flag-is, eq-is, ne-is, le-is, lt-is, not-is, and-is, or-is, means, when-is, cond-is, if-is, all-is, eights-is}
+use Rattle.numbers.proofs.Exactly.{flag-is, eq-is, ne-is, le-is, lt-is, and-is, or-is, means, when-is, cond-is, if-is, all-is}
 use Rattle.measure.specs.declared.Span.{Span}
-use Rattle.floor.specs.View.{View, axisCount, filled, leaf, bay, link}
-use Rattle.bays.specs.Bays.{twin, lone, baysOk, BaysApart}
+use Rattle.floor.specs.View.{View, axisCount, filled, leaf, link}
+use Rattle.bays.proofs.Exact.{bays-exactly}
 use Rattle.rules.specs.declared.Rule.{Rule}
 use Rattle.rules.specs.declared.Rule.the-variants.{Form, Fill, Links, Boxes, Bays}
 use Rattle.rules.specs.Header.{fieldsOk, headerOk, HeaderRight}
@@ -146,25 +145,6 @@ links-exactly v n =
 boxes-exactly : (v : View) (n : ℕ) → Exactly (boxesOk v n) (WellBoxed v n)
 unfolding boxesOk tightOk
 boxes-exactly v n = above-is v n (λ i. all-is (λ a. sameSpan-is _ _) axisCount)
-
--- ---- rule 16
-
--- two slots are no twins when one bay number makes them one slot
-pub twin-is : (v : View) (j k : ℕ) → Exactly (not (twin v j k)) (bay v j ≡ true → bay v k ≡ true → v .ref j ≡ v .ref k → j ≡ k)
-unfolding twin
-twin-is v j k =
-    means
-    (not-is _ (and-is (and-is (flag-is (bay v j)) (flag-is (bay v k))) (and-is (ne-is j k) (eq-is (v .ref j) (v .ref k)))))
-    (λ h a b e. elim (ℕ-discrete j k) [ yes p ↦ p | no q ↦ absurd (h ((a, b), (q, e))) ])
-    (λ h t. t .1 .0 (h (t .0 .0) (t .0 .1) (t .1 .1)))
-
-bays-exactly : (v : View) (n : ℕ) → Exactly (baysOk v n) (BaysApart v n)
-unfolding baysOk lone
-bays-exactly v n =
-    means
-    (all-is (λ i. eights-is (twin-is v (8 * n + i)) (v .count)) 8)
-    (λ h i k a b. h i a k b)
-    (λ h i a k b. h i k a b)
 
 -- ---- every rule
 

@@ -1,7 +1,7 @@
 -- What each verdict of the map check means, and what a rule that holds gives to the rules after it.
 -- Assumes nothing.
 use mathlib.Core.Path.{_≡_, refl, sym, ap, _∙_}
-use mathlib.Core.Bool.{Bool, true, false, not, cond, true≢false}
+use mathlib.Core.Bool.{Bool, true, false, cond, true≢false}
 use mathlib.Core.List.{List, [], _∷_, List·Memᴰ, List·Memᴰ·head, List·Memᴰ·tail, List·Memᴰ·not-nil, List·Memᴰ·cases-cons}
 use mathlib.Core.Logic.{⊎-elim}
 use Prim.Native.Nat.{ℕ, _+_, _*_, _<_, _≤_}
@@ -12,7 +12,6 @@ use borrow.Author.Tests.{lt-ltb, le-ltb, ltb-true, ltb-false}
 use Rattle.numbers.proofs.Below.{first-is, first-none, first-all}
 use Rattle.numbers.proofs.Exactly.{by-eights}
 use Rattle.floor.specs.View.{View, viewOf, Shaped, link}
-use Rattle.bays.specs.Bays.{NoTwins}
 use Rattle.rules.specs.declared.Rule.{Rule}
 use Rattle.rules.specs.declared.Rule.the-variants.{Form, Fill, Links, Boxes, Bays}
 use Rattle.rules.specs.declared.Verdict.{Verdict}
@@ -20,7 +19,7 @@ use Rattle.rules.specs.declared.Verdict.the-variants.{Accepted, BadHeade
 use Rattle.rules.specs.Header.{headerOk, HeaderRight}
 use Rattle.rules.specs.Verdicts.{ruleOk, lowestFault, order, firstBroken, verdictOf, KeptAll, Keeps, Breaks, Means}
 use Rattle.rules.proofs.Linked.{link-filled, link-inner}
-use Rattle.rules.proofs.Exact.{header-exactly, rule-exactly, twin-is}
+use Rattle.rules.proofs.Exact.{header-exactly, rule-exactly}
 
 -- ---- one rule after another
 
@@ -152,7 +151,3 @@ pub form-links : (v : View) → KeptAll Form v → (j : ℕ) → j < 8 * v .coun
 form-links v k =
     by-eights (λ j. link v j ≡ true → v .ref j < v .count) (v .count) (λ n a i s l.
     k n a .entries i s (link-filled v (8 * n + i) l) .refer .node (link-inner v (8 * n + i) l) .0)
-
--- where no two slots are twins, rule 16 holds
-pub no-twins : (v : View) → NoTwins v → KeptAll Bays v
-no-twins v h n l i k a b = twin-is v (8 * n + i) k .sound (ap not (h (8 * n + i) k (omega arith) b))

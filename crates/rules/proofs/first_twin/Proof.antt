@@ -3,9 +3,10 @@
 use mathlib.Core.Path.{_≡_, sym, ap, _∙_}
 use native.Mathlib.Omega.{arith}
 use Rattle.floor.specs.View.{viewOf}
+use Rattle.bays.proofs.Exact.{no-twins}
 use Rattle.rules.specs.declared.Rule.the-variants.{Bays}
 use Rattle.rules.specs.Verdicts.{ruleNumber}
-use Rattle.rules.proofs.Verdicts.{none-at-fault, no-twins}
+use Rattle.rules.proofs.Verdicts.{none-at-fault}
 use borrow.Author.Needs.{needs}
 use Rattle.rules.proofs.first_twin.Statement.{statement}
 use Rattle.rules.proofs.first_twin.Tie as tie

@@ -4,7 +4,7 @@ use mathlib.Core.Path.{_≡_}
 use Rattle.rules.specs.Form.{formOk}
 use Rattle.rules.specs.Links.{linksOk}
 use Rattle.rules.specs.Boxes.{boxesOk}
-use Rattle.bays.specs.Bays.{baysOk}
+use Rattle.bays.specs.Bays.{lone, baysOk}
 use borrow.Author.Needs.{needs}
 use Rattle.rules.proofs.holds.Statement.{statement}
 use Rattle.rules.proofs.holds.Tie as tie
@@ -67,7 +67,7 @@ unfolding boxesOk
 returns-4 c = rw (c .before .enum-told4 .given .1) (c .above-leaves2 .ensures)
 
 returns-5 : tie.Need-returns-5
-unfolding baysOk
+unfolding baysOk lone
 returns-5 c = rw (c .before .enum-told5 .given .1) (c .slots-hold2 .ensures)
 
 pub holds-spec : {M : Type 1} → statement M
