@@ -9,7 +9,7 @@ use Rattle.bays.specs.Bays.{twin, NoTwins, baysOk, OneSlot, BaysApart}
 use Rattle.bays.proofs.Alone.{apart-is, none-apart}
 
 -- two slots are no twins when one bay number makes them one slot
-twin-is : (v : View) (j k : ℕ) → Exactly (not (twin v j k)) (OneSlot v j k)
+pub twin-is : (v : View) (j k : ℕ) → Exactly (not (twin v j k)) (OneSlot v j k)
 unfolding twin
 twin-is v j k =
     means
