@@ -166,7 +166,7 @@ module _ (p : ℕ → Bool) where
 -- ---- one test that passed, and now fails: a loop's measure
 
 module _ (t u : ℕ → Bool) where
-  count-agree : (n : ℕ) → ((i : ℕ) → i < n → u i ≡ t i) → countBelow u n ≡ countBelow t n
+  pub count-agree : (n : ℕ) → ((i : ℕ) → i < n → u i ≡ t i) → countBelow u n ≡ countBelow t n
   count-agree zero c = refl
   count-agree (suc n) c = rw (c n (omega arith), count-agree n (λ i p. c i (omega arith)))
 

@@ -7,4 +7,6 @@ pub mod Squares
 pub mod Shifted
 pub mod Below
 pub mod Exactly
+pub mod Counting
+pub mod Bits
 pub mod Arrays
