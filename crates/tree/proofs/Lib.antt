@@ -1,3 +1,5 @@
 -- What acceptance gives, and two maps that are accepted.
 pub mod Tree
+pub mod Smallest
+pub mod Height
 pub mod Examples

@@ -96,6 +96,12 @@ module _ (v : View) (tree : Treelike v) where
         higher = sym (link-falls (f .at) (f .below) (p .0)) ∙ ap (λ x. v .level x + 1) r;
       }
 
+  -- what a slot names is not the root
+  pub link-below : (j : ℕ) → j < 8 * v .count → link v j ≡ true → v .ref j ≡ v .root → ⊥
+  unfolding named
+  link-below j h l q =
+      omega (arith, count-some (names v (v .ref j)) (8 * v .count) j h (rw (l, eq-eqb (v .ref j) (v .ref j) refl)), ap (named v) q ∙ root-unnamed)
+
   -- two slots that lead to one node are one slot
   pub parent-alone : (i j : ℕ) → i < 8 * v .count → j < 8 * v .count → link v i ≡ true → link v j ≡ true → v .ref i ≡ v .ref j → i ≡ j
   unfolding named
@@ -111,12 +117,9 @@ module _ (v : View) (tree : Treelike v) where
       nj : names v t j ≡ true
       nj = rw (lj, eq-eqb t t refl)
 
-      other : t ≡ v .root → ⊥
-      other q = omega (arith, count-some (names v t) (8 * v .count) j hj nj, ap (named v) q ∙ root-unnamed)
-
       twice : (x y : ℕ) → x < y → y < 8 * v .count → names v t x ≡ true → names v t y ≡ true → ⊥
       twice x y l hy a b =
-          omega (arith, count-two (names v t) (8 * v .count) x y l hy a b, named-once t (link-leads j hj lj) other)
+          omega (arith, count-two (names v t) (8 * v .count) x y l hy a b, named-once t (link-leads j hj lj) (link-below j hj lj))
 
   -- the root alone stands at the top level
   pub top-alone : (n : ℕ) → n < v .count → v .level n + 1 ≡ v .height → n ≡ v .root
@@ -177,7 +180,7 @@ module _ (v : View) (tree : Treelike v) where
     abbrev AsFar : ℕ → ℕ → Type 0
     AsFar j k = asFar side (endOf side (v .span j a)) (endOf side (v .span k a)) ≡ true
 
-    child-within : (j k : ℕ) → j < 8 * v .count → link v j ≡ true → k / 8 ≡ v .ref j → filled v k ≡ true → AsFar j k
+    pub child-within : (j k : ℕ) → j < 8 * v .count → link v j ≡ true → k / 8 ≡ v .ref j → filled v k ≡ true → AsFar j k
     child-within j k h l e f =
         let q : 8 * v .ref j + k % 8 ≡ k = omega arith in
         rw (link-tight j h l a ha) (rw q at (hull-holds v a (v .ref j) side 8 (k % 8) (omega arith) (rw q f)))
