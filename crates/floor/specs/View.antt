@@ -3,7 +3,7 @@
 use mathlib.Core.Path.{_≡_}
 use mathlib.Core.Bool.{Bool, not, _&&_}
 use mathlib.Core.List.{List}
-use Prim.Native.Nat.{ℕ, _+_, _*_, _/_, _%_, _^_, _<_, _≤_}
+use Prim.Native.Nat.{ℕ, zero, suc, _+_, _*_, _/_, _%_, _^_, _<_, _≤_}
 use lib.Dec.{eqb}
 use lib.ListN.{length, getD}
 use Rattle.words.specs.Words.{leAt, i32At}
@@ -83,8 +83,16 @@ bay v j = leaf v (j / 8) && filled v j
 abbrev pub link : View → ℕ → Bool
 link v j = not (leaf v (j / 8)) && filled v j
 
+-- the box made of a span for each axis, and the span of a box on an axis
+abbrev pub boundsBy : (ℕ → Span) → Bounds
+boundsBy spans = record { x = spans 0; y = spans 1 }
+
+abbrev pub spanOn : Bounds → ℕ → Span
+spanOn b zero = b .x
+spanOn b (suc a) = b .y
+
 abbrev pub boundsOf : View → ℕ → Bounds
-boundsOf v j = record { x = v .span j 0; y = v .span j 1 }
+boundsOf v j = boundsBy (v .span j)
 
 abbrev pub slotOf : View → ℕ → Slot
 slotOf v j = record { bounds = boundsOf v j; reference = v .ref j; zone = v .zone j; clear = v .slotClear j }
