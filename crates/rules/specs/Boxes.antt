@@ -7,7 +7,7 @@ use lib.Signed.{leZ}
 use Rattle.numbers.specs.Below.{allBelow}
 use Rattle.measure.specs.declared.Bounds.{Bounds}
 use Rattle.measure.specs.declared.Span.{Span}
-use Rattle.floor.specs.View.{View, axisCount, filled, leaf, link}
+use Rattle.floor.specs.View.{View, axisCount, filled, leaf, link, boundsBy, spanOn}
 use Rattle.rules.specs.Spans.{sameSpan}
 use Rattle.rules.specs.declared.boxes.Side.{Side}
 use Rattle.rules.specs.declared.boxes.Side.the-variants.{Low, High}
@@ -42,12 +42,12 @@ unfoldable pub hull : View → ℕ → ℕ → ℕ → Span
 hull v a n zero = noSpan
 hull v a n (suc i) = grownOn v a (8 * n + i) (hull v a n i)
 
--- the same on both axes
+-- the same on every axis
 abbrev pub grownOf : View → ℕ → Bounds → Bounds
-grownOf v j b = record { x = grownOn v 0 j (b .x); y = grownOn v 1 j (b .y) }
+grownOf v j b = boundsBy (λ a. grownOn v a j (spanOn b a))
 
 abbrev pub hullOf : View → ℕ → ℕ → Bounds
-hullOf v n i = record { x = hull v 0 n i; y = hull v 1 n i }
+hullOf v n i = boundsBy (λ a. hull v a n i)
 
 -- of a node above the leaves: a filled slot carries that span on every axis
 unfoldable pub tightOk : View → ℕ → Bool

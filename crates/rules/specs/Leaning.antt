@@ -6,8 +6,9 @@ use mathlib.Core.List.{List}
 use Prim.Native.Nat.{ℕ, _*_, _/_, _<_}
 use lib.Dec.{eqb}
 use lib.ListN.{getD}
+use Rattle.numbers.specs.Below.{allBelow}
 use Rattle.floor.specs.declared.Slot.{Slot}
-use Rattle.floor.specs.View.{View, filled, leaf}
+use Rattle.floor.specs.View.{View, axisCount, filled, leaf, spanOn}
 use Rattle.bays.specs.Bays.{lone}
 use Rattle.rules.specs.declared.Rule.{Rule}
 use Rattle.rules.specs.declared.Rule.the-variants.{Form, Fill, Links, Boxes, Bays}
@@ -43,4 +44,7 @@ Counted v counts = (t : ℕ) → t < v .count → getD counts t 0 ≡ named v t
 -- that a slot which is not filled is all zero, of the slot as it was read
 unfoldable pub blankSlot : Slot → Bool
 blankSlot s =
-    sameSpan (s .bounds .x) zeroSpan && sameSpan (s .bounds .y) zeroSpan && eqb (s .reference) 0 && eqb (s .zone) 0 && s .clear
+    allBelow (λ a. sameSpan (spanOn (s .bounds) a) zeroSpan) axisCount
+    && eqb (s .reference) 0
+    && eqb (s .zone) 0
+    && s .clear

@@ -1,12 +1,18 @@
 -- `rules::boxes::grown` meets its contract: it grows where the slot is filled, and else not.
 -- Assumes nothing.
 use mathlib.Core.Path.{_≡_, sym, ap, _∙_}
-use borrow.Author.Tests.{not-true, not-false, eq-eqb, ne-eqb}
+use Prim.Native.Nat.{ℕ}
+use borrow.Author.Tests.{not-true, not-false}
 use Rattle.measure.specs.declared.Bounds.{Bounds}
+use Rattle.floor.specs.View.{spanOn}
 use Rattle.rules.specs.Boxes.{around}
 use borrow.Author.Needs.{needs}
 use Rattle.rules.proofs.boxes.grown.Statement.{statement}
 use Rattle.rules.proofs.boxes.grown.Tie as tie
+
+-- on an axis, round the box as it was read
+around-on : (hull : Bounds) {b d : Bounds} → b ≡ d → (a : ℕ) → around (spanOn hull a) (spanOn b a) ≡ around (spanOn hull a) (spanOn d a)
+around-on hull e a = ap (λ (b : Bounds). around (spanOn hull a) (spanOn b a)) e
 
 is-filled-requires : tie.Need-is-filled-requires
 is-filled-requires c κs = search needs
@@ -28,9 +34,8 @@ returns-2 c =
     let read = c .before .before in
     let s = read .before .before .before .before in
     let f = sym (read .before .before .is-filled .ensures) ∙ not-false _ (read .before .if1 .left) in
-    let x = c .before .span-around .ensures ∙ ap (λ (b : Bounds). around (s .args .hull .x) (b .x)) (read .bounds-of .ensures) in
-    let y = c .span-around2 .ensures ∙ ap (λ (b : Bounds). around (s .args .hull .y) (b .y)) (read .bounds-of .ensures) in
-    rw f (λ i. record { x = x i; y = y i })
+    let on = around-on (s .args .hull) (read .bounds-of .ensures) in
+    rw f (λ i. record { x = (c .before .span-around .ensures ∙ on 0) i; y = (c .span-around2 .ensures ∙ on 1) i })
 
 pub grown-spec : {M : Type 1} → statement M
 grown-spec =

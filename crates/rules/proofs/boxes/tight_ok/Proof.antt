@@ -1,15 +1,19 @@
 -- `rules::boxes::tight_ok` meets its contract: a filled slot leads to a node, and carries its hull on both axes.
 -- Assumes nothing.
 use mathlib.Core.Path.{_≡_, sym, ap, ap₂, _∙_}
-use Prim.Native.Nat.{ℕ, _<_}
+use Prim.Native.Nat.{ℕ}
 use borrow.Author.Tests.{not-true, not-false}
 use Rattle.measure.specs.declared.Bounds.{Bounds}
-use Rattle.floor.specs.View.{viewOf}
+use Rattle.floor.specs.View.{viewOf, spanOn}
 use Rattle.rules.specs.Spans.{sameSpan}
 use Rattle.rules.specs.Boxes.{hullOf, tightOk}
 use borrow.Author.Needs.{needs}
 use Rattle.rules.proofs.boxes.tight_ok.Statement.{statement}
 use Rattle.rules.proofs.boxes.tight_ok.Tie as tie
+
+-- on an axis, the boxes as they were read
+same-on : {b d h k : Bounds} → b ≡ d → h ≡ k → (a : ℕ) → sameSpan (spanOn b a) (spanOn h a) ≡ sameSpan (spanOn d a) (spanOn k a)
+same-on e f a = ap₂ (λ (b h : Bounds). sameSpan (spanOn b a) (spanOn h a)) e f
 
 is-filled-requires : tie.Need-is-filled-requires
 is-filled-requires c κs = search needs
@@ -50,9 +54,8 @@ returns-2 c =
     let v = viewOf (s .args .map .now) in
     let filled = sym (flag .is-filled .ensures) ∙ not-false _ (box .before .if1 .left) in
     let smallest = hull .hull-of .ensures ∙ ap (λ (n : ℕ). hullOf v n 8) (hull .before .ref-of .ensures) in
-    let x = c .before .is-same .ensures ∙ ap₂ (λ (b h : Bounds). sameSpan (b .x) (h .x)) (box .bounds-of .ensures) smallest in
-    let y = c .is-same2 .ensures ∙ ap₂ (λ (b h : Bounds). sameSpan (b .y) (h .y)) (box .bounds-of .ensures) smallest in
-    simp (filled, x, y)
+    let on = same-on (box .bounds-of .ensures) smallest in
+    simp (filled, c .before .is-same .ensures ∙ on 0, c .is-same2 .ensures ∙ on 1)
 
 pub tight-ok-spec : {M : Type 1} → statement M
 tight-ok-spec =
