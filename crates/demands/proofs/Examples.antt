@@ -13,7 +13,8 @@ use borrow.Author.Tests.{ltb-true}
 use Rattle.numbers.proofs.Tests.{both}
 use Rattle.measure.specs.Axis.{inRange, spanIn, squareOf, nearestOn}
 use Rattle.measure.specs.Axes.{minDist}
-use Rattle.words.specs.Words.{leAt}
+use Rattle.words.specs.Words.{leAt, leBytes}
+use Rattle.floor.specs.Written.{slotBytes, slotsBytes}
 use Rattle.floor.specs.View.{viewOf, filled}
 use Rattle.bays.specs.Bays.{twin, lone, baysOk}
 use Rattle.rules.specs.Header.{fieldsOk, headerOk}
@@ -42,7 +43,7 @@ use Rattle.demands.proofs.Demands.{demand-3}
 -- ---- the maps are accepted, by computing the verdict
 
 computed : (verdictOf tallMap ≡ Accepted) × (verdictOf movedMap ≡ Accepted)
-unfolding verdictOf firstBroken headerOk fieldsOk formOk slotOk entryOk referOk blankOk fillOk linksOk namedOk named stepOk sameSpan boxesOk tightOk hull outer baysOk lone twin viewOf filled leAt inRange spanIn lib.Count.ones lib.Count.onesIn
+unfolding verdictOf firstBroken headerOk fieldsOk formOk slotOk entryOk referOk blankOk fillOk linksOk namedOk named stepOk sameSpan boxesOk tightOk hull outer baysOk lone twin viewOf filled leAt leBytes slotBytes slotsBytes inRange spanIn lib.Count.ones lib.Count.onesIn
 computed = (refl, refl)
 
 taken : (m : List ℕ) → verdictOf m ≡ Accepted → accepted m ≡ true
@@ -66,7 +67,7 @@ abbrev bay4 : Entry
 bay4 = record { bay = 4; zone = 3; bounds = record { x = record { low = pos 0; high = pos 2 }; y = record { low = pos 0; high = pos 2 } } }
 
 shown : (visible 8 exampleMap ≡ bay7 ∷ bay4 ∷ []) × (visible 8 tallMap ≡ bay4 ∷ bay7 ∷ []) × (visible 8 movedMap ≡ bay7 ∷ [])
-unfolding visible entries gather only onBadge viewOf filled leAt
+unfolding visible entries gather only onBadge viewOf filled leAt leBytes slotBytes slotsBytes
 shown = (refl, refl, refl)
 
 turned : {A : Type 0} (a b x : A) → List·Memᴰ x (a ∷ b ∷ []) → List·Memᴰ x (b ∷ a ∷ [])
@@ -99,7 +100,7 @@ found-is m ok =
     ap (λ (r : Reply). r .found) (reply-page m question (replicate 32 0) none)
 
 pages : (length (pageOf exampleMap question) ≡ 2) × (length (pageOf movedMap question) ≡ 1)
-unfolding page wholeList allBays gather only place sortOnto before onBadge minDist squareOf nearestOn viewOf filled leAt
+unfolding page wholeList allBays gather only place sortOnto before onBadge minDist squareOf nearestOn viewOf filled leAt leBytes slotBytes slotsBytes
 pages = (refl, refl)
 
 pub differs : replyOf exampleMap question (replicate 32 0) ≡ replyOf movedMap question (replicate 32 0) → ⊥
@@ -130,9 +131,11 @@ abbrev Fair : Turn → Type 0
 Fair t = Bytes (t .map) × (accepted (t .map) ≡ true → SameBays 8 exampleMap (t .map))
 
 example-fair : (k : ℕ) → Fair (turn exampleMap k)
+unfolding leBytes slotBytes slotsBytes
 example-fair k = (bytes-are exampleMap refl, λ _. record { there = λ x m. m; back = λ x m. m })
 
 tall-fair : (k : ℕ) → Fair (turn tallMap k)
+unfolding leBytes slotBytes slotsBytes
 tall-fair k = (bytes-are tallMap refl, λ _. alike .bays example-taken)
 
 fair : (t : Turn) → List·Memᴰ t day → Fair t
@@ -155,7 +158,7 @@ day-ends =
     (let two : length (visible 8 exampleMap) ≡ 2 = ap length (shown .0) in omega (arith, three, two))
 
 whole : listOn exampleMap 8 lamp ≡ seenFrom lamp bay4 ∷ seenFrom lamp bay7 ∷ []
-unfolding wholeList allBays gather only place sortOnto before onBadge minDist squareOf nearestOn viewOf filled leAt
+unfolding wholeList allBays gather only place sortOnto before onBadge minDist squareOf nearestOn viewOf filled leAt leBytes slotBytes slotsBytes
 whole = refl
 
 -- its pages joined: bay 4, then bay 7, each at 16

@@ -9,7 +9,8 @@ use lib.ListN.{length, length-map}
 use Rattle.numbers.proofs.Tests.{both}
 use Rattle.measure.specs.declared.Point.{Point}
 use Rattle.measure.specs.Answer.{pointOk}
-use Rattle.floor.specs.View.{View, viewOf, slotAt, leaf, bay, filled, boundsOf}
+use Rattle.floor.specs.View.{View, viewOf, leaf, bay, filled, boundsOf}
+use Rattle.floor.specs.Layout.{slotAt}
 use Rattle.words.specs.Words.{leAt}
 use Rattle.rules.specs.declared.Rule.the-variants.{Bays}
 use Rattle.rules.specs.Verdicts.{Keeps}

@@ -4,12 +4,13 @@ use mathlib.Core.List.{List, _++_}
 use Prim.Native.Nat.{ℕ}
 use lib.IntN.{pos}
 use Rattle.measure.specs.declared.Point.{Point}
+use Rattle.measure.specs.declared.Span.{Span}
 use Rattle.tree.specs.Examples.{header, node, from, bayIn, blanks}
 use Rattle.nearest.specs.declared.question.Mark.{Mark}
 use Rattle.nearest.specs.declared.question.Question.{Question}
 
 -- a slot above the leaves: x, y, and the node that it names
-abbrev pub linkTo : List ℕ → List ℕ → ℕ → List ℕ
+abbrev pub linkTo : Span → Span → ℕ → List ℕ
 linkTo x y n = bayIn x y n 0
 
 -- height 2: bays 4 and 7 of zone 3 lie in two leaves, with four others of zone 5

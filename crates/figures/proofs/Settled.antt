@@ -10,7 +10,8 @@ use mir.Facts.{and-yes}
 use Rattle.measure.specs.Axis.{inRange, pointIn, spanIn, squareOf, nearestOn, lowIsNear, lowIsFar}
 use Rattle.measure.specs.Axes.{minDist, minMaxDist}
 use Rattle.measure.specs.Answer.{axesOf, Reply, reply, measuredBy}
-use Rattle.words.specs.Words.{leAt}
+use Rattle.words.specs.Words.{leAt, leBytes}
+use Rattle.floor.specs.Written.{slotBytes, slotsBytes}
 use Rattle.floor.specs.View.{viewOf, filled}
 use Rattle.bays.specs.Bays.{twin, lone, baysOk}
 use Rattle.rules.specs.Header.{fieldsOk, headerOk}
@@ -99,5 +100,5 @@ tests-sound (f ∷ fs) t =
     (test-sound (f .claim) (h .0), tests-sound fs (h .1))
 
 pub settled : AllHold table
-unfolding inRange pointIn spanIn squareOf nearestOn lowIsNear lowIsFar minDist minMaxDist measuredBy refusal badgeOk verdictOf firstBroken headerOk fieldsOk formOk slotOk entryOk referOk blankOk fillOk linksOk namedOk named stepOk sameSpan boxesOk baysOk lone twin viewOf filled leAt ones onesIn onBadge before allBays wholeList page place sortOnto only gather
+unfolding inRange pointIn spanIn squareOf nearestOn lowIsNear lowIsFar minDist minMaxDist measuredBy refusal badgeOk verdictOf firstBroken headerOk fieldsOk formOk slotOk entryOk referOk blankOk fillOk linksOk namedOk named stepOk sameSpan boxesOk baysOk lone twin viewOf filled leAt leBytes slotBytes slotsBytes ones onesIn onBadge before allBays wholeList page place sortOnto only gather
 settled = tests-sound table tt

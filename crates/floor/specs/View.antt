@@ -1,5 +1,5 @@
 -- What a floor map says, apart from where its bytes lie. Document 01, 'The floor map, byte by byte'.
--- Slots are numbered through the whole map: slot i of node n is slot 8·n + i. Axis 0 is x, axis 1 is y.
+-- Axis 0 is x, axis 1 is y.
 use mathlib.Core.Path.{_≡_}
 use mathlib.Core.Bool.{Bool, not, _&&_}
 use mathlib.Core.List.{List}
@@ -9,6 +9,7 @@ use lib.ListN.{length, getD}
 use Rattle.words.specs.Words.{leAt, i32At}
 use Rattle.measure.specs.declared.Bounds.{Bounds}
 use Rattle.measure.specs.declared.Span.{Span}
+use Rattle.floor.specs.Layout.{axisCount, nodeAt, slotAt, spanFrom, refFrom, zoneFrom, zerosFrom, mapSize}
 use Rattle.floor.specs.declared.Header.{Header}
 use Rattle.floor.specs.declared.Node.{Node}
 use Rattle.floor.specs.declared.Slot.{Slot}
@@ -30,26 +31,22 @@ pub record View : Type 0 where
   pub zone : ℕ → ℕ
   pub slotClear : ℕ → Bool
 
--- how many axes there are
-abbrev pub axisCount : ℕ
-axisCount = 2
-
-abbrev pub headerSize : ℕ
-headerSize = 8
-
--- where node n begins, where slot j begins, and how long a map of n nodes is
-abbrev pub nodeAt : ℕ → ℕ
-nodeAt n = 8 + 196 * n
-
-abbrev pub slotAt : ℕ → ℕ
-slotAt j = 12 + 196 * (j / 8) + 24 * (j % 8)
-
-abbrev pub mapSize : ℕ → ℕ
-mapSize n = 8 + 196 * n
-
 -- a span: low, then high
 abbrev pub spanAt : List ℕ → ℕ → Span
 spanAt m at = record { low = i32At m at; high = i32At m (at + 4) }
+
+-- the fields of a slot that begins at a place: its span on an axis, its reference, its zone, and whether its zero bytes are zero
+abbrev pub slotSpan : List ℕ → ℕ → ℕ → Span
+slotSpan m place a = spanAt m (place + spanFrom a)
+
+abbrev pub slotRef : List ℕ → ℕ → ℕ
+slotRef m place = leAt 4 m (place + refFrom axisCount)
+
+abbrev pub slotZone : List ℕ → ℕ → ℕ
+slotZone m place = leAt 1 m (place + zoneFrom axisCount)
+
+abbrev pub slotZeros : List ℕ → ℕ → Bool
+slotZeros m place = eqb (leAt 3 m (place + zerosFrom axisCount)) 0
 
 unfoldable pub viewOf : List ℕ → View
 viewOf m =
@@ -62,10 +59,10 @@ viewOf m =
       level = λ n. leAt 1 m (nodeAt n);
       occupied = λ n. leAt 1 m (nodeAt n + 1);
       nodeClear = λ n. eqb (leAt 2 m (nodeAt n + 2)) 0;
-      span = λ j a. spanAt m (slotAt j + 8 * a);
-      ref = λ j. leAt 4 m (slotAt j + 16);
-      zone = λ j. leAt 1 m (slotAt j + 20);
-      slotClear = λ j. eqb (leAt 3 m (slotAt j + 21)) 0;
+      span = λ j a. slotSpan m (slotAt j) a;
+      ref = λ j. slotRef m (slotAt j);
+      zone = λ j. slotZone m (slotAt j);
+      slotClear = λ j. slotZeros m (slotAt j);
     }
 
 -- bit i of a node's occupancy is set when slot i is filled

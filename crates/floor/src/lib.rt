@@ -1,11 +1,26 @@
 // The bytes of a floor map as a view: the header's fields, a node's by its number, a slot's by its flat number
 // j = 8 · node + i. Nothing outside this crate knows an offset. The map check and the search read maps through it.
 // Its functions have a `requires`, since a field is read only where the header rule has shown that it is there.
+mod layout;
+mod place;
+
+pub use layout::size_for;
+pub use layout::slot_place;
+pub use place::high_at;
+pub use place::low_at;
+pub use place::ref_at;
+pub use place::zone_at;
 ghost use mathlib.Core.Path.{_≡_};
 ghost use Prim.Native.Nat.{_+_, _*_, _/_, _<_, _≤_};
 ghost use lib.ListN.{length};
 ghost use lib.Dec.{leb};
-ghost use Rattle.floor.specs.View.{viewOf, slotAt, spanAt, headerSize, mapSize, filled, boundsOf, slotOf, Shaped, HeaderRead, NodeRead};
+ghost use Rattle.floor.specs.Layout.{headerSize};
+ghost use Rattle.floor.specs.View.{viewOf, spanAt, filled, boundsOf, slotOf, Shaped, HeaderRead, NodeRead};
+use layout::HEADER_SIZE;
+use layout::SPAN_SIZE;
+use layout::ZONE_FROM;
+use layout::node_at;
+use layout::slot_at;
 use measure::Bounds;
 use measure::Span;
 use words::i32_at;
@@ -38,7 +53,7 @@ pub struct Node {
 pub fn has_header(map: &[u8]) -> bool
     ensures { λ r. ⌜ r ≡ leb headerSize (length (now (map .entry))) ⌝ }
 {
-    8 <= map.len()
+    HEADER_SIZE <= map.len()
 }
 
 // The header's fields, where there are bytes enough, whatever they say.
@@ -61,20 +76,12 @@ pub fn node_of(map: &[u8], n: usize) -> Node
     requires { ⌜ Shaped (viewOf (now map)) × (n < viewOf (now map) .count) ⌝ }
     ensures { λ r. ⌜ NodeRead (viewOf (now (map .entry))) n r ⌝ }
 {
-    let first = u32_at(map, 8 + 196 * n);
+    let first = u32_at(map, node_at(n));
     Node {
         level: (first % 256) as u8,
         occupied: (first / 256 % 256) as u8,
         clear: first / 65536 == 0,
     }
-}
-
-// How long a map of n nodes is.
-pub fn size_for(n: usize) -> usize
-    requires { ⌜ n < 65536 ⌝ }
-    ensures { λ r. ⌜ r ≡ mapSize n ⌝ }
-{
-    8 + 196 * n
 }
 
 pub fn header_of(map: &[u8]) -> Header
@@ -120,14 +127,6 @@ pub fn is_filled(map: &[u8], j: usize) -> bool
     (node_of(map, j / 8).occupied >> i) % 2 == 1
 }
 
-// Where slot j begins.
-fn slot_at(j: usize) -> usize
-    requires { ⌜ j < 2048 ⌝ }
-    ensures { λ r. ⌜ r ≡ slotAt j ⌝ }
-{
-    12 + 196 * (j / 8) + 24 * (j % 8)
-}
-
 fn span_at(map: &[u8], at: usize) -> Span
     requires { ⌜ at + 8 ≤ length (now map) ⌝ }
     ensures { λ r. ⌜ r ≡ spanAt (now (map .entry)) at ⌝ }
@@ -137,21 +136,29 @@ fn span_at(map: &[u8], at: usize) -> Span
     Span { low, high }
 }
 
+// The box of slot i of node n.
+pub fn bounds_in(map: &[u8], n: usize, i: usize) -> Bounds
+    requires { ⌜ Shaped (viewOf (now map)) × (n < viewOf (now map) .count) × (i < 8) ⌝ }
+    ensures { λ r. ⌜ r ≡ boundsOf (viewOf (now (map .entry))) (8 * n + i) ⌝ }
+{
+    let at = slot_place(n, i);
+    let x = span_at(map, at);
+    let y = span_at(map, at + SPAN_SIZE);
+    Bounds { x, y }
+}
+
 pub fn bounds_of(map: &[u8], j: usize) -> Bounds
     requires { ⌜ Shaped (viewOf (now map)) × (j < 8 * viewOf (now map) .count) ⌝ }
     ensures { λ r. ⌜ r ≡ boundsOf (viewOf (now (map .entry))) j ⌝ }
 {
-    let at = slot_at(j);
-    let x = span_at(map, at);
-    let y = span_at(map, at + 8);
-    Bounds { x, y }
+    bounds_in(map, j / 8, j % 8)
 }
 
 pub fn ref_of(map: &[u8], j: usize) -> u32
     requires { ⌜ Shaped (viewOf (now map)) × (j < 8 * viewOf (now map) .count) ⌝ }
     ensures { λ r. ⌜ r ≡ viewOf (now (map .entry)) .ref j ⌝ }
 {
-    u32_at(map, slot_at(j) + 16)
+    ref_at(map, slot_at(j))
 }
 
 // All of a slot, each field read once.
@@ -161,7 +168,7 @@ pub fn slot_of(map: &[u8], j: usize) -> Slot
 {
     let bounds = bounds_of(map, j);
     let reference = ref_of(map, j);
-    let last = u32_at(map, slot_at(j) + 20);
+    let last = u32_at(map, slot_at(j) + ZONE_FROM);
     Slot {
         bounds,
         reference,

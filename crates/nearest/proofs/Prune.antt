@@ -10,7 +10,8 @@ use Rattle.measure.specs.Answer.{onX, onY, axesOf}
 use Rattle.measure.specs.Within.{Within, none, more}
 use Rattle.measure.proofs.Range.{span-ordered}
 use Rattle.measure.proofs.Theorems.{mindist-more}
-use Rattle.floor.specs.View.{View, axisCount, boundsOf, filled, link}
+use Rattle.floor.specs.View.{View, boundsOf, filled, link}
+use Rattle.floor.specs.Layout.{axisCount}
 use Rattle.rules.specs.Verdicts.{Keeps}
 use Rattle.tree.specs.Below.{Under, InBox}
 use Rattle.tree.proofs.Tree.{keeps-treelike, inside, entry-in-range}

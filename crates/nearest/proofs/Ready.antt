@@ -8,7 +8,8 @@ use Rattle.measure.specs.Axis.{Ready, pointIn, inRange}
 use Rattle.measure.specs.Axes.{Each}
 use Rattle.measure.specs.Answer.{axesOf}
 use Rattle.numbers.proofs.Tests.{both}
-use Rattle.floor.specs.View.{View, Shaped, axisCount, boundsOf, filled}
+use Rattle.floor.specs.View.{View, Shaped, boundsOf, filled}
+use Rattle.floor.specs.Layout.{axisCount}
 use Rattle.rules.proofs.Verdicts.{shaped}
 use Rattle.tree.proofs.Tree.{keeps-treelike, entry-in-range}
 use Rattle.nearest.specs.Ground.{Ground}

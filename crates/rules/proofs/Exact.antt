@@ -12,7 +12,8 @@ use Rattle.numbers.specs.Exactly.{Exactly}
 use Rattle.numbers.proofs.Order.{le-self, le-both}
 use Rattle.numbers.proofs.Exactly.{flag-is, eq-is, ne-is, le-is, lt-is, and-is, or-is, means, when-is, cond-is, if-is, all-is}
 use Rattle.measure.specs.declared.Span.{Span}
-use Rattle.floor.specs.View.{View, axisCount, filled, leaf, link}
+use Rattle.floor.specs.View.{View, filled, leaf, link}
+use Rattle.floor.specs.Layout.{axisCount}
 use Rattle.bays.proofs.Exact.{bays-exactly}
 use Rattle.rules.specs.declared.Rule.{Rule}
 use Rattle.rules.specs.declared.Rule.the-variants.{Form, Fill, Links, Boxes, Bays}

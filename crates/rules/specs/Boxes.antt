@@ -7,7 +7,8 @@ use lib.Signed.{leZ}
 use Rattle.numbers.specs.Below.{allBelow}
 use Rattle.measure.specs.declared.Bounds.{Bounds}
 use Rattle.measure.specs.declared.Span.{Span}
-use Rattle.floor.specs.View.{View, axisCount, filled, leaf, link, boundsBy, spanOn}
+use Rattle.floor.specs.View.{View, filled, leaf, link, boundsBy, spanOn}
+use Rattle.floor.specs.Layout.{axisCount}
 use Rattle.rules.specs.Spans.{sameSpan}
 use Rattle.rules.specs.declared.boxes.Side.{Side}
 use Rattle.rules.specs.declared.boxes.Side.the-variants.{Low, High}

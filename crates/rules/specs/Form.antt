@@ -7,7 +7,8 @@ use lib.IntN.{pos}
 use Rattle.numbers.specs.Below.{allBelow}
 use Rattle.measure.specs.declared.Span.{Span}
 use Rattle.measure.specs.Axis.{spanIn}
-use Rattle.floor.specs.View.{View, axisCount, filled, leaf}
+use Rattle.floor.specs.View.{View, filled, leaf}
+use Rattle.floor.specs.Layout.{axisCount}
 use Rattle.rules.specs.Spans.{sameSpan}
 
 -- what a filled slot refers to: in a leaf a bay number and a zone, above the leaves a node

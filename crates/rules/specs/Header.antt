@@ -3,7 +3,8 @@ use mathlib.Core.Path.{_≡_}
 use mathlib.Core.Bool.{Bool, true, _&&_}
 use Prim.Native.Nat.{_<_, _≤_}
 use lib.Dec.{eqb, leb, ltb}
-use Rattle.floor.specs.View.{View, headerSize, mapSize}
+use Rattle.floor.specs.View.{View}
+use Rattle.floor.specs.Layout.{headerSize, mapSize}
 
 -- the fields, where there is a header
 unfoldable pub fieldsOk : View → Bool

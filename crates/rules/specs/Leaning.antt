@@ -8,7 +8,8 @@ use lib.Dec.{eqb}
 use lib.ListN.{getD}
 use Rattle.numbers.specs.Below.{allBelow}
 use Rattle.floor.specs.declared.Slot.{Slot}
-use Rattle.floor.specs.View.{View, axisCount, filled, leaf, spanOn}
+use Rattle.floor.specs.View.{View, filled, leaf, spanOn}
+use Rattle.floor.specs.Layout.{axisCount}
 use Rattle.bays.specs.Bays.{lone}
 use Rattle.rules.specs.declared.Rule.{Rule}
 use Rattle.rules.specs.declared.Rule.the-variants.{Form, Fill, Links, Boxes, Bays}

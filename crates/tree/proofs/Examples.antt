@@ -2,7 +2,8 @@
 -- Assumes nothing.
 use mathlib.Core.Path.{_≡_, refl}
 use Rattle.measure.specs.Axis.{inRange, spanIn}
-use Rattle.words.specs.Words.{leAt}
+use Rattle.words.specs.Words.{leAt, leBytes}
+use Rattle.floor.specs.Written.{slotBytes, slotsBytes}
 use Rattle.floor.specs.View.{viewOf, filled}
 use Rattle.bays.specs.Bays.{twin, lone, baysOk}
 use Rattle.rules.specs.Header.{fieldsOk, headerOk}
@@ -17,7 +18,7 @@ use Rattle.tree.specs.Examples.{emptyMap, exampleMap}
 
 -- the verdicts, with all that they are computed by unfolded
 computed : (verdictOf emptyMap ≡ Accepted) × (verdictOf exampleMap ≡ Accepted)
-unfolding verdictOf firstBroken headerOk fieldsOk formOk slotOk entryOk referOk blankOk fillOk linksOk namedOk named stepOk sameSpan boxesOk baysOk lone twin viewOf filled leAt inRange spanIn lib.Count.ones lib.Count.onesIn
+unfolding verdictOf firstBroken headerOk fieldsOk formOk slotOk entryOk referOk blankOk fillOk linksOk namedOk named stepOk sameSpan boxesOk baysOk lone twin viewOf filled leAt leBytes slotBytes slotsBytes inRange spanIn lib.Count.ones lib.Count.onesIn
 computed = (refl, refl)
 
 pub empty-accepted : verdictOf emptyMap ≡ Accepted

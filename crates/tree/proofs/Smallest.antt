@@ -7,8 +7,9 @@ use Prim.Native.Nat.{ℕ, _+_, _*_, _<_, _≤_}
 use native.Mathlib.Omega.{arith}
 use lib.Count.{ones}
 use lib.ListN.{getD}
-use Rattle.floor.specs.Bytes.{leAt}
-use Rattle.floor.specs.View.{View, viewOf, nodeAt, axisCount, link}
+use Rattle.words.specs.Words.{leAt}
+use Rattle.floor.specs.View.{View, viewOf, link}
+use Rattle.floor.specs.Layout.{nodeAt, axisCount}
 use Rattle.rules.specs.declared.Rule.the-variants.{Fill}
 use Rattle.rules.specs.declared.boxes.Side.{Side}
 use Rattle.rules.specs.Boxes.{endOf}

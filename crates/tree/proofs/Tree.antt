@@ -13,7 +13,8 @@ use Rattle.numbers.proofs.Below.{ordered, count-some, count-two, count-found}
 use Rattle.numbers.proofs.Exactly.{by-eights}
 use Rattle.numbers.proofs.Order.{test-le}
 use Rattle.measure.specs.Axis.{spanIn}
-use Rattle.floor.specs.View.{View, axisCount, filled, bay, link}
+use Rattle.floor.specs.View.{View, filled, bay, link}
+use Rattle.floor.specs.Layout.{axisCount}
 use Rattle.rules.specs.declared.Rule.the-variants.{Form, Links, Boxes, Bays}
 use Rattle.rules.specs.declared.boxes.Side.{Side}
 use Rattle.rules.specs.declared.boxes.Side.the-variants.{Low, High}

@@ -4,7 +4,8 @@ use mathlib.Core.Bool.{true}
 use Prim.Native.Nat.{ℕ, _*_, _/_, _<_}
 use lib.Signed.{_≤ℤ_}
 use Rattle.measure.specs.declared.Span.{Span}
-use Rattle.floor.specs.View.{View, axisCount, link}
+use Rattle.floor.specs.View.{View, link}
+use Rattle.floor.specs.Layout.{axisCount}
 
 -- slot k lies below node t, or in it
 pub data Under (v : View) : ℕ → ℕ → Type 0 where

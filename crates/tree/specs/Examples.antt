@@ -1,37 +1,31 @@
--- The bytes of document 01's two maps: the empty leaf root of its figure 8, and its example map.
-use mathlib.Core.List.{List, _∷_, _++_}
-use Prim.Native.Nat.{ℕ, _*_}
-use lib.ListN.{replicate}
-
-abbrev pub zeros : ℕ → List ℕ
-zeros n = replicate n 0
-
--- a number below 256 in two bytes, and in four
-abbrev pub short : ℕ → List ℕ
-short n = n ∷ zeros 1
-
-abbrev pub word : ℕ → List ℕ
-word n = n ∷ zeros 3
+-- The bytes of document 01's two maps: the empty leaf root of its figure 8, and its example map. The parts that they are
+-- made of are `floor`'s, with numbers in place of records.
+use mathlib.Core.Bool.{true}
+use mathlib.Core.List.{List, [], _++_}
+use Prim.Native.Nat.{ℕ}
+use lib.IntN.{pos}
+use Rattle.measure.specs.declared.Span.{Span}
+use Rattle.floor.specs.Written.{slotBytes, slotsBytes, headBytes, headerBytes}
 
 -- N, the root and H
 abbrev pub header : ℕ → ℕ → ℕ → List ℕ
-header count root height = short count ++ short root ++ (height ∷ zeros 3)
+header = headerBytes
 
 -- level and occupancy of a node; its eight slots follow
 abbrev pub node : ℕ → ℕ → List ℕ
-node level occupied = level ∷ occupied ∷ zeros 2
+node = headBytes
 
 -- from low to high on an axis
-abbrev pub from : ℕ → ℕ → List ℕ
-from low high = word low ++ word high
+abbrev pub from : ℕ → ℕ → Span
+from low high = record { low = pos low; high = pos high }
 
 -- a filled slot of a leaf: x, y, its bay and its zone
-abbrev pub bayIn : List ℕ → List ℕ → ℕ → ℕ → List ℕ
-bayIn x y bay zone = x ++ y ++ word bay ++ (zone ∷ zeros 3)
+abbrev pub bayIn : Span → Span → ℕ → ℕ → List ℕ
+bayIn x y bay zone = slotBytes (record { bounds = record { x = x; y = y }; reference = bay; zone = zone; clear = true })
 
 -- n slots that are not filled
 abbrev pub blanks : ℕ → List ℕ
-blanks n = zeros (24 * n)
+blanks = slotsBytes []
 
 -- a root that is a leaf with no bay
 abbrev pub emptyMap : List ℕ

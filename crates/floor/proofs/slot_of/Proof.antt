@@ -5,7 +5,8 @@ use Prim.Native.Nat.{ℕ, _+_}
 use native.Mathlib.Omega.{arith}
 use lib.Dec.{eqb}
 use Rattle.words.specs.Words.{leAt}
-use Rattle.floor.specs.View.{viewOf, slotAt}
+use Rattle.floor.specs.Layout.{axisCount, slotAt, zoneFrom, zerosFrom}
+use Rattle.floor.specs.View.{viewOf}
 use Rattle.words.proofs.Reading.{word-first, word-rest}
 use Rattle.floor.proofs.Inside.{slot-inside}
 use borrow.Author.Needs.{needs}
@@ -39,9 +40,9 @@ returns c =
     let known = read .before in
     let s = known .before in
     let b = known .shared-slice-known .given in
-    let at = slotAt (s .args .j) + 20 in
-    let word = c .u32-at .ensures ∙ ap (λ (a : ℕ). leAt 4 (s .args .map .now) (a + 20)) (c .before .slot-at .ensures) in
-    let next : at + 1 ≡ slotAt (s .args .j) + 21 = omega arith in
+    let at = slotAt (s .args .j) + zoneFrom axisCount in
+    let word = c .u32-at .ensures ∙ ap (λ (a : ℕ). leAt 4 (s .args .map .now) (a + zoneFrom axisCount)) (c .before .slot-at .ensures) in
+    let next : at + 1 ≡ slotAt (s .args .j) + zerosFrom axisCount = omega arith in
     let clear = ap (λ (x : ℕ). eqb x 0) (rw next at (word-rest (s .args .map .now) b 3 at word)) in
     λ i. record {
       bounds = read .bounds-of .ensures i;
