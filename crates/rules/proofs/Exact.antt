@@ -59,12 +59,12 @@ header-exactly v =
       some = f .0 .0 .0 .0 .0 .0;
       few = f .0 .0 .0 .0 .0 .1;
       rooted = f .0 .0 .0 .0 .1;
-      high = f .0 .0 .0 .1;
+      tall = f .0 .0 .0 .1;
       low = f .0 .0 .1;
       clear = f .0 .1;
       size = f .1;
     })
-    (λ r. (r .headed, ((((((r .some, r .few), r .rooted), r .high), r .low), r .clear), r .size)))
+    (λ r. (r .headed, ((((((r .some, r .few), r .rooted), r .tall), r .low), r .clear), r .size)))
 
 -- ---- rule 12
 

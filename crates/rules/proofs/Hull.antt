@@ -150,7 +150,15 @@ module _ (v : View) (a n : ℕ) (side : Side) where
       by b true f = begun-filled i f b
       by b false f = begun-kept i (hull-blank i f) b
 
-  -- where a filled slot's span is in range, a filled slot's end is the hull's
+  -- where the hull itself is in range, a filled slot's end is the hull's
+  pub hull-reached : (i : ℕ) → spanIn (hull v a n i) ≡ true → Reaches i (endOf side (hull v a n i))
+  hull-reached i s =
+      ⊎-elim
+      (λ r. r)
+      (λ e. absurd (none-inner side (hullEnd i) (end-in side (hull v a n i) s) (rw e (far-self side (endOf side noSpan)))))
+      (begun i)
+
+  -- so it is where a filled slot's span is in range
   pub hull-met : (i k : ℕ) → k < i → filled v (8 * n + k) ≡ true → spanIn (v .span (8 * n + k) a) ≡ true → Reaches i (endOf side (hull v a n i))
   hull-met i k h f s =
       ⊎-elim

@@ -58,7 +58,7 @@ tightOk v j = cond (filled v j) (allBelow (λ a. sameSpan (v .span j a) (hull v 
 unfoldable pub boxesOk : View → ℕ → Bool
 boxesOk v n = leaf v n || allBelow (λ i. tightOk v (8 * n + i)) 8
 
--- the property; that `hull` is the smallest is shown by `hull-holds` and `hull-met`
+-- the property; that `hull` is the smallest is shown by `hull-holds` and `hull-reached`
 abbrev pub WellBoxed : View → ℕ → Type 0
 WellBoxed v n =
     (i : ℕ) → i < 8 → link v (8 * n + i) ≡ true

@@ -26,7 +26,7 @@ pub record HeaderRight (v : View) : Type 0 where
   pub some : 1 ≤ v .count
   pub few : v .count ≤ 256
   pub rooted : v .root < v .count
-  pub high : 1 ≤ v .height
+  pub tall : 1 ≤ v .height
   pub low : v .height ≤ 6
   pub clear : v .clear ≡ true
   pub size : v .size ≡ mapSize (v .count)

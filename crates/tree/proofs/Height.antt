@@ -2,19 +2,23 @@
 -- above the leaves. So a map of at most 256 nodes is at most 6 high, whatever its header says. Assumes nothing.
 use mathlib.Core.Path.{_≡_, refl, sym, ap, _∙_}
 use mathlib.Core.Bool.{Bool, true, false, _&&_}
+use mathlib.Core.List.{List}
 use mathlib.Core.Logic.{⊎-elim}
 use Prim.Native.Nat.{ℕ, zero, suc, _+_, _*_, _-_, _/_, _<_, _≤_}
 use native.Mathlib.Omega.{arith}
 use native.Mathlib.Decide.{ℕ-discrete, decLe}
 use native.Mathlib.Nat.{mul-add}
 use lib.Count.{ones}
+use lib.ListN.{getD}
 use lib.Dec.{eqb, leb}
 use borrow.Author.Tests.{eqb-true, eq-eqb, ne-eqb, le-leb, lt-leb}
 use Rattle.numbers.specs.Below.{one, countBelow}
 use Rattle.numbers.proofs.Tests.{both, and-true}
 use Rattle.numbers.proofs.Below.{ordered, count-some, count-most, count-agree}
 use Rattle.numbers.proofs.Counting.{count-add, count-sum, count-led}
-use Rattle.floor.specs.View.{View, filled, link}
+use Rattle.words.specs.Words.{leAt}
+use Rattle.floor.specs.View.{View, viewOf, filled, link}
+use Rattle.floor.specs.Layout.{nodeAt}
 use Rattle.rules.specs.declared.Rule.the-variants.{Fill}
 use Rattle.rules.specs.Verdicts.{KeptAll}
 use Rattle.rules.proofs.Filled.{ones-filled}
@@ -44,6 +48,11 @@ nodes-from v l = count-sum _ (λ n. eqb (v .level n) l) (λ n. leb (suc l) (v .l
 -- slot j is a filled slot of a node of level l
 abbrev stands : View → ℕ → ℕ → Bool
 stands v l j = filled v j && eqb (v .level (j / 8)) l
+
+-- the occupancies of a list of bytes are bytes
+pub bytes-narrow : (m : List ℕ) → ((k : ℕ) → getD m k 0 < 256) → Narrow (viewOf m)
+unfolding viewOf leAt
+bytes-narrow m b n h = omega (arith, b (nodeAt n + 1))
 
 module _ (v : View) (narrow : Narrow v) where
   node-stands : (l n : ℕ) → n < v .count → v .level n ≡ l → countBelow (λ i. stands v l (8 * n + i)) 8 ≡ ones (v .occupied n)
