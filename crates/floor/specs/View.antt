@@ -5,11 +5,11 @@ use mathlib.Core.Bool.{Bool, not, _&&_}
 use mathlib.Core.List.{List}
 use Prim.Native.Nat.{ℕ, zero, suc, _+_, _*_, _/_, _%_, _^_, _<_, _≤_}
 use lib.Dec.{eqb}
-use lib.ListN.{length, getD}
+use lib.ListN.{length}
 use Rattle.words.specs.Words.{leAt, i32At}
 use Rattle.measure.specs.declared.Bounds.{Bounds}
 use Rattle.measure.specs.declared.Span.{Span}
-use Rattle.floor.specs.Layout.{axisCount, nodeAt, slotAt, spanFrom, refFrom, zoneFrom, zerosFrom, mapSize}
+use Rattle.floor.specs.Layout.{axisCount, slotSize, nodeAt, slotAt, spanFrom, refFrom, zoneFrom, zerosFrom, mapSize}
 use Rattle.floor.specs.declared.Header.{Header}
 use Rattle.floor.specs.declared.Node.{Node}
 use Rattle.floor.specs.declared.Slot.{Slot}
@@ -99,6 +99,17 @@ pub record Shaped (v : View) : Type 0 where
   pub few : v .count ≤ 256
   pub rooted : v .root < v .count
   pub size : v .size ≡ mapSize (v .count)
+
+-- what gives slot i of node n to its readers
+pub record InNode (v : View) (n i : ℕ) : Type 0 where
+  pub shaped : Shaped v
+  pub node : n < v .count
+  pub slot : i < 8
+
+-- a slot that begins at a place is there, and has a span on the axis
+pub record HasSpan (m : List ℕ) (place a : ℕ) : Type 0 where
+  pub inside : place + slotSize axisCount ≤ length m
+  pub axis : a < axisCount
 
 -- a header as it was read
 pub record HeaderRead (v : View) (h : Header) : Type 0 where

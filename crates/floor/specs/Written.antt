@@ -1,15 +1,15 @@
 -- A map's bytes as they are written: a slot, a whole node, the header. Document 01, 'The floor map, byte by byte'.
 use mathlib.Core.Bool.{true}
 use mathlib.Core.List.{List, [], _∷_, _++_}
-use Prim.Native.Nat.{ℕ, zero, suc}
+use Prim.Native.Nat.{ℕ, zero, suc, _+_, _<_, _≤_}
 use lib.IntN.{pos}
-use lib.ListN.{getD, replicate}
+use lib.ListN.{length, getD, replicate}
 use lib.Seq.{sets}
 use Rattle.words.specs.Words.{leBytes, i32Bytes}
 use Rattle.measure.specs.declared.Bounds.{Bounds}
 use Rattle.measure.specs.declared.Span.{Span}
 use Rattle.floor.specs.declared.Slot.{Slot}
-use Rattle.floor.specs.Layout.{axisCount, nodeAt, slotAt}
+use Rattle.floor.specs.Layout.{axisCount, slotSize, nodeSize, nodeAt, slotAt}
 
 -- the span of a box on an axis
 abbrev pub spanOn : Bounds → ℕ → Span
@@ -62,6 +62,15 @@ nodeBytes h = headBytes (h .level) (h .occupied) ++ slotsBytes (h .slots) 8
 -- node count (2), root (2), height (1), three zero bytes
 abbrev pub headerBytes : ℕ → ℕ → ℕ → List ℕ
 headerBytes count root height = leBytes 2 count ++ leBytes 2 root ++ (height ∷ replicate 3 0)
+
+-- the bytes of slot j are there, and those of node n
+pub record HasSlot (m : List ℕ) (j : ℕ) : Type 0 where
+  pub few : j < 2048
+  pub inside : slotAt j + slotSize axisCount ≤ length m
+
+pub record HasNode (m : List ℕ) (n : ℕ) : Type 0 where
+  pub few : n < 256
+  pub inside : nodeAt n + nodeSize axisCount ≤ length m
 
 -- slot j written anew, node n, and the header
 abbrev pub putSlot : List ℕ → ℕ → Slot → List ℕ

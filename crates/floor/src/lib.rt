@@ -3,6 +3,7 @@
 // Its functions have a `requires`, since a field is read only where the header rule has shown that it is there.
 mod layout;
 mod place;
+mod write;
 
 pub use layout::size_for;
 pub use layout::slot_place;
@@ -10,12 +11,15 @@ pub use place::high_at;
 pub use place::low_at;
 pub use place::ref_at;
 pub use place::zone_at;
+pub use write::put_header;
+pub use write::put_node;
+pub use write::put_slot;
 ghost use mathlib.Core.Path.{_≡_};
 ghost use Prim.Native.Nat.{_+_, _*_, _/_, _<_, _≤_};
 ghost use lib.ListN.{length};
 ghost use lib.Dec.{leb};
 ghost use Rattle.floor.specs.Layout.{headerSize};
-ghost use Rattle.floor.specs.View.{viewOf, spanAt, filled, boundsOf, slotOf, Shaped, HeaderRead, NodeRead};
+ghost use Rattle.floor.specs.View.{viewOf, spanAt, filled, boundsOf, slotOf, Shaped, InNode, HeaderRead, NodeRead};
 use layout::HEADER_SIZE;
 use layout::SPAN_SIZE;
 use layout::ZONE_FROM;
@@ -138,7 +142,7 @@ fn span_at(map: &[u8], at: usize) -> Span
 
 // The box of slot i of node n.
 pub fn bounds_in(map: &[u8], n: usize, i: usize) -> Bounds
-    requires { ⌜ Shaped (viewOf (now map)) × (n < viewOf (now map) .count) × (i < 8) ⌝ }
+    requires { ⌜ InNode (viewOf (now map)) n i ⌝ }
     ensures { λ r. ⌜ r ≡ boundsOf (viewOf (now (map .entry))) (8 * n + i) ⌝ }
 {
     let at = slot_place(n, i);

@@ -1,10 +1,10 @@
 // The fields of a slot by the place where it begins, one by one: for what must be fast, and keeps places and not numbers.
 // All of the slot is there; `slot_place` gives such a place.
 ghost use mathlib.Core.Path.{_≡_};
-ghost use Prim.Native.Nat.{_+_, _<_, _≤_};
+ghost use Prim.Native.Nat.{_+_, _≤_};
 ghost use lib.ListN.{length};
 ghost use Rattle.floor.specs.Layout.{axisCount, slotSize};
-ghost use Rattle.floor.specs.View.{slotSpan, slotRef, slotZone};
+ghost use Rattle.floor.specs.View.{HasSpan, slotSpan, slotRef, slotZone};
 use crate::layout::REF_FROM;
 use crate::layout::SPAN_SIZE;
 use crate::layout::ZONE_FROM;
@@ -13,7 +13,7 @@ use words::u32_at;
 
 // The low end on an axis.
 pub fn low_at(map: &[u8], place: usize, axis: usize) -> i32
-    requires { ⌜ (place + slotSize axisCount ≤ length (now map)) × (axis < axisCount) ⌝ }
+    requires { ⌜ HasSpan (now map) place axis ⌝ }
     ensures { λ r. ⌜ r ≡ slotSpan (now (map .entry)) place axis .low ⌝ }
 {
     i32_at(map, place + SPAN_SIZE * axis)
@@ -21,7 +21,7 @@ pub fn low_at(map: &[u8], place: usize, axis: usize) -> i32
 
 // The high end on an axis.
 pub fn high_at(map: &[u8], place: usize, axis: usize) -> i32
-    requires { ⌜ (place + slotSize axisCount ≤ length (now map)) × (axis < axisCount) ⌝ }
+    requires { ⌜ HasSpan (now map) place axis ⌝ }
     ensures { λ r. ⌜ r ≡ slotSpan (now (map .entry)) place axis .high ⌝ }
 {
     i32_at(map, place + SPAN_SIZE * axis + 4)

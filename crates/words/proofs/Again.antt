@@ -1,11 +1,11 @@
 -- What was written is what is read, at every width, and nothing else is touched. Assumes nothing.
-use mathlib.Core.Path.{_≡_, refl, sym, ap, _∙_}
+use mathlib.Core.Path.{_≡_, refl, _∙_}
 use mathlib.Core.List.{List, [], _∷_, _++_, append-nil}
 use mathlib.Core.Logic.{_⊎_, inl, inr, ⊎-elim}
-use Prim.Native.Nat.{ℕ, zero, suc, _+_, _*_, _/_, _%_, _^_, _<_, _≤_}
+use Prim.Native.Nat.{ℕ, zero, suc, _+_, _/_, _%_, _^_, _<_, _≤_}
 use native.Mathlib.Numerals.{add-one}
 use native.Mathlib.Omega.{arith, pow-step}
-use lib.ListN.{length, getD, set, take, drop, length-set, length-append}
+use lib.ListN.{length, getD, set, take, drop, length-set, List·getD-append}
 use lib.Seq.{sets, getD-set-same, getD-set-other, getD-append-add, drop-cons}
 use mir.Syntax.{w8}
 use mir.Val.{Fits}
@@ -45,7 +45,10 @@ module _ (bs m : List ℕ) (at : ℕ) where
       le-same k (sets m at bs) bs (at + d) d
       (λ i less. let e : at + d + i ≡ at + (d + i) = omega arith in rw e (sets-in bs m at (d + i) (omega arith) l))
 
--- a number after others
+-- a number before others, and after others
+pub le-before : (k d : ℕ) (p l : List ℕ) → d + k ≤ length p → leAt k (p ++ l) d ≡ leAt k p d
+le-before k d p l h = le-same k (p ++ l) p d d (λ i less. List·getD-append p l 0 (d + i) (omega arith))
+
 pub le-after : (k d : ℕ) (p l : List ℕ) → leAt k (p ++ l) (length p + d) ≡ leAt k l d
 le-after k d p l =
     le-same k (p ++ l) l (length p + d) d
@@ -61,6 +64,11 @@ bytes-again (suc k) n rest h =
     let p = pow-step 256 k in
     let later = le-drop k 1 0 (n % 256 ∷ leBytes k (n / 256) ++ rest) in
     omega (arith, later, bytes-again k (n / 256) rest (omega arith))
+
+pub bytes-after : (k n : ℕ) (p rest : List ℕ) (at : ℕ) → length p ≡ at → n < 256 ^ k → leAt k (p ++ (leBytes k n ++ rest)) at ≡ n
+bytes-after k n p rest at e h =
+    let place : at ≡ length p + 0 = omega arith in
+    rw place (le-after k 0 p (leBytes k n ++ rest) ∙ bytes-again k n rest h)
 
 -- what was written is what is read
 pub le-again : (k n : ℕ) (m : List ℕ) (at : ℕ) → n < 256 ^ k → at + k ≤ length m → leAt k (sets m at (leBytes k n)) at ≡ n

@@ -1,7 +1,7 @@
 -- A signed number and its bits: how the code makes the bits, and that the number comes back. Assumes nothing.
 use mathlib.Core.Path.{_≡_, refl, sym, ap, _∙_}
 use mathlib.Core.Bool.{Bool, true, false, true≢false, false≢true}
-use mathlib.Core.List.{List}
+use mathlib.Core.List.{List, _++_}
 use Prim.Native.Nat.{ℕ, suc, _+_, _-_, _<_, _≤_}
 use native.Mathlib.Omega.{arith}
 use lib.Dec.{T}
@@ -13,8 +13,8 @@ use mir.Facts.{toZ-ofZ, fits-ofZ}
 use mir.Syntax.{w32}
 use mir.Val.{Fits, SFits, sel, toZ, ofZ}
 use borrow.Author.Tests.{le-leb, lt-ltb}
-use Rattle.words.specs.Words.{leAt, i32At, i32Bytes}
-use Rattle.words.proofs.Again.{le-again}
+use Rattle.words.specs.Words.{i32At, i32Bytes}
+use Rattle.words.proofs.Again.{bytes-after, le-again}
 
 -- a number that is not negative is its own bits
 pub record Plain (z : ℤ) : Type 0 where
@@ -46,3 +46,6 @@ flipped-bits (negsuc n) f h =
 -- what was written is what is read
 pub signed-again : (z : ℤ) → SFits w32 z → (m : List ℕ) (at : ℕ) → at + 4 ≤ length m → i32At (sets m at (i32Bytes z)) at ≡ z
 signed-again z f m at l = ap (toZ w32) (le-again 4 (ofZ w32 z) m at (fits-ofZ f .fits) l) ∙ toZ-ofZ f
+
+pub signed-after : (z : ℤ) → SFits w32 z → (p rest : List ℕ) (at : ℕ) → length p ≡ at → i32At (p ++ (i32Bytes z ++ rest)) at ≡ z
+signed-after z f p rest at e = ap (toZ w32) (bytes-after 4 (ofZ w32 z) p rest at e (fits-ofZ f .fits)) ∙ toZ-ofZ f

@@ -5,7 +5,7 @@ use mathlib.Core.List.{List, [], _∷_, _++_}
 use Prim.Native.Nat.{ℕ, zero, suc, _+_, _*_, _/_, _%_, _^_, _<_, _≤_}
 use native.Mathlib.Nat.{add-zero, mul-assoc, mod-add-div, mod-lt, one-le-pow}
 use native.Mathlib.Omega.{arith, pow-step}
-use lib.ListN.{length, set, drop, length-append, length-drop}
+use lib.ListN.{length, set, drop, replicate, length-append, length-drop}
 use lib.Seq.{sets, sets-eq, take-append-seam, drop-append-add, drop-drop}
 use Rattle.words.specs.Words.{leBytes}
 
@@ -16,6 +16,10 @@ module _ {ℓ} {A : Type ℓ} where
   sets-append l i (a ∷ u) v =
       let e : i + suc (length u) ≡ suc i + length u = omega arith in
       rw e (sets-append (set l i a) (suc i) u v)
+
+  -- the next run of stores goes on where the last one ends
+  pub sets-next : (l : List A) (i d : ℕ) (u v : List A) → length u ≡ d → sets (sets l i u) (i + d) v ≡ sets l i (u ++ v)
+  sets-next l i d u v e = rw (← e) (sym (sets-append l i u v))
 
   -- what begins with p, and the next piece after it
   pub laid-next : (p bs l : List A) → length p + length bs ≤ length l
@@ -28,6 +32,18 @@ pub length-bytes : (k n : ℕ) → length (leBytes k n) ≡ k
 unfolding leBytes
 length-bytes zero n = refl
 length-bytes (suc k) n = ap suc (length-bytes k (n / 256))
+
+-- a number below 256 is its first byte, and the others are zero
+pub byte-alone : (k n : ℕ) → n < 256 → leBytes (suc k) n ≡ n ∷ replicate k 0
+unfolding leBytes
+byte-alone k n h =
+    let first : n % 256 ≡ n = omega arith in
+    let rest : n / 256 ≡ 0 = omega arith in
+    rw (first, rest, zeros k)
+  where
+    zeros : (k : ℕ) → leBytes k 0 ≡ replicate k 0
+    zeros zero = refl
+    zeros (suc k) = ap (λ (l : List ℕ). 0 ∷ l) (zeros k)
 
 -- a number in range is known by its bytes
 pub bytes-back : (k n m : ℕ) → n < 256 ^ k → m < 256 ^ k → leBytes k n ≡ leBytes k m → n ≡ m

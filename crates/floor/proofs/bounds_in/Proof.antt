@@ -16,7 +16,7 @@ slot-place-requires c κs = search needs
 span-at-requires : tie.Need-span-at-requires
 span-at-requires c κs =
     let s = c .before .before in
-    omega (arith, place-inside _ (s .pre .0) _ _ (s .pre .1) (s .pre .2))
+    omega (arith, place-inside _ (s .pre .shaped) _ _ (s .pre .node) (s .pre .slot))
 
 add-span-at : tie.Need-add-span-at
 add-span-at c = search needs
@@ -24,7 +24,7 @@ add-span-at c = search needs
 span-at-requires-2 : tie.Need-span-at-requires-2
 span-at-requires-2 c κs =
     let s = c .before .before .before in
-    omega (arith, place-inside _ (s .pre .0) _ _ (s .pre .1) (s .pre .2))
+    omega (arith, place-inside _ (s .pre .shaped) _ _ (s .pre .node) (s .pre .slot))
 
 returns : tie.Need-returns
 unfolding viewOf

@@ -1,6 +1,5 @@
 -- `floor::is_filled` meets its contract: it is the definition's bit of the occupancy.
 -- Assumes nothing.
-use mathlib.Core.Path.{_≡_}
 use Rattle.floor.specs.View.{filled}
 use borrow.Author.Needs.{needs}
 use Rattle.floor.proofs.is_filled.Statement.{statement}

@@ -1,6 +1,6 @@
 -- `floor::ref_of` meets its contract: the reference at the place of slot j.
 -- Assumes nothing.
-use mathlib.Core.Path.{_≡_, ap, _∙_}
+use mathlib.Core.Path.{ap, _∙_}
 use native.Mathlib.Omega.{arith}
 use Rattle.floor.specs.View.{viewOf, slotRef}
 use Rattle.floor.proofs.Inside.{slot-inside}

@@ -1,10 +1,7 @@
 -- `floor::span_at` meets its contract: its two ends are those of the definition.
 -- Assumes nothing.
-use mathlib.Core.Path.{_≡_, _∙_}
-use lib.IntN.{ℤ}
+use mathlib.Core.Path.{_∙_}
 use mir.Facts.{toZ-ofZ}
-use mir.Syntax.{w32}
-use mir.Val.{SFits, toZ, ofZ}
 use borrow.Author.Needs.{needs}
 use Rattle.floor.proofs.span_at.Statement.{statement}
 use Rattle.floor.proofs.span_at.Tie as tie

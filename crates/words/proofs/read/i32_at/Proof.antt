@@ -1,6 +1,6 @@
 -- `words::read::i32_at` meets its contract: four bytes, read as two's complement.
 -- Assumes nothing.
-use mathlib.Core.Path.{_≡_, ap, _∙_}
+use mathlib.Core.Path.{ap, _∙_}
 use mir.Facts.{toZ-ofZ}
 use mir.Syntax.{w32}
 use mir.Val.{toZ}

@@ -1,6 +1,5 @@
 -- `words::read::u32_at` meets its contract: two numbers of two bytes are one of four.
 -- Assumes nothing.
-use mathlib.Core.Path.{_≡_}
 use native.Mathlib.Omega.{arith}
 use Rattle.words.proofs.Reading.{le-joined}
 use borrow.Author.Needs.{needs}
