@@ -6,11 +6,8 @@ use borrow.Author.Needs.{needs}
 use Rattle.figures.proofs.maps.bytes_of.Statement.{statement}
 use Rattle.figures.proofs.maps.bytes_of.Tie as tie
 
-mul-size : tie.Need-mul-size
-mul-size c = search needs
-
-add-size : tie.Need-add-size
-add-size c = search needs
+size-for-requires : tie.Need-size-for-requires
+size-for-requires c κs = search needs
 
 slice-aggregate-result : tie.Need-slice-aggregate-result
 slice-aggregate-result c = sym (length-take-le _ _ (search needs))
@@ -19,4 +16,4 @@ returns : tie.Need-returns
 returns c = search needs
 
 pub bytes-of-spec : {M : Type 1} → statement M
-bytes-of-spec = tie.close (tie.spec mul-size add-size slice-aggregate-result returns)
+bytes-of-spec = tie.close (tie.spec size-for-requires slice-aggregate-result returns)
