@@ -1,6 +1,6 @@
 -- The laws of the reply.
-pub mod Records
-pub mod Reading
-pub mod Replies
 pub mod Answers
+pub mod Replies
+pub mod Filling
+pub mod Fitting
 pub mod Theorems

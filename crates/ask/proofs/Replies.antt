@@ -1,23 +1,22 @@
 -- The reply, case by case: each refusal where it is due, and the page where none is. Assumes nothing.
-use Prim.Native.Nat.{ℕ, _*_, _<_, _≤_}
-use mathlib.Core.Path.{_≡_, refl}
+use Prim.Native.Nat.{ℕ}
+use mathlib.Core.Path.{_≡_, refl, sym, ap, _∙_}
 use mathlib.Core.Bool.{true, false}
 use mathlib.Core.List.{List}
 use native.Mathlib.Omega.{arith}
-use lib.Dec.{ltb}
 use lib.ListN.{length}
-use borrow.Author.Tests.{eqb-true, lt-ltb, le-ltb}
-use Rattle.measure.specs.Answer.{pointOk}
+use borrow.Author.Tests.{eqb-true}
+use Rattle.numbers.specs.Tried.{firstGiven}
 use Rattle.floor.specs.View.{viewOf}
 use Rattle.rules.specs.declared.Verdict.{Verdict}
 use Rattle.rules.specs.declared.Verdict.the-variants.{Accepted, BadHeader, Broken}
 use Rattle.rules.specs.declared.Rule.the-variants.{Form, Fill, Links, Boxes, Bays}
 use Rattle.rules.specs.Verdicts.{numberOf, verdictOf, Keeps}
 use Rattle.rules.proofs.Verdicts.{accepted-sound}
-use Rattle.nearest.specs.declared.question.Question.{Question}
-use Rattle.nearest.specs.Badge.{badgeOk}
-use Rattle.ask.specs.Room.{roomWith}
-use Rattle.ask.specs.Reply.{countOk, accepted, refusal, pageOf, Reply, refused, answered, replyOf}
+use Rattle.question.specs.declared.Question.{Question}
+use Rattle.ask.specs.Told.{pageOf}
+use Rattle.ask.specs.Reply.{accepted, ownTests, refused, answered, replyOf}
+use Rattle.ask.proofs.Answers.{refusal-own, refusal-map, refusal-none, reply-page, reply-refused}
 
 -- number 0 is the verdict of no fault
 number-zero : (r : Verdict) → numberOf r ≡ 0 → r ≡ Accepted
@@ -33,30 +32,19 @@ pub accepted-keeps : (map : List ℕ) → accepted map ≡ true → Keeps (viewO
 accepted-keeps map e = accepted-sound map (number-zero (verdictOf map) (eqb-true (numberOf (verdictOf map)) 0 e))
 
 module _ (map : List ℕ) (q : Question) (room : List ℕ) where
-  pub bad-point : pointOk (q .from) ≡ false → refused 1 room ≡ replyOf map q room
-  unfolding replyOf refusal
-  bad-point p = rw p
+  abbrev own : ℕ
+  own = firstGiven (ownTests q (length room))
 
-  module _ (p : pointOk (q .from) ≡ true) where
-    pub bad-count : countOk (q .k) ≡ false → refused 2 room ≡ replyOf map q room
-    unfolding replyOf refusal
-    bad-count k = rw (p, k)
+  -- refused by itself, refused on the map, or answered
+  pub refused-own : (own ≡ 0 → ⊥) → refused own room ≡ replyOf map q room
+  refused-own ne =
+      let e = refusal-own q (length room) map ne in
+      sym (reply-refused map q room (λ z. ne (sym e ∙ z)) ∙ ap (λ (n : ℕ). refused n room) e)
 
-    module _ (k : countOk (q .k) ≡ true) where
-      pub bad-badge : badgeOk (q .badge .0) ≡ false → refused 3 room ≡ replyOf map q room
-      unfolding replyOf refusal
-      bad-badge b = rw (p, k, b)
+  pub refused-map : own ≡ 0 → accepted map ≡ false → refused 5 room ≡ replyOf map q room
+  refused-map z a =
+      let e = refusal-map q (length room) map z a in
+      sym (reply-refused map q room (λ n. absurd (omega (arith, e, n))) ∙ ap (λ (n : ℕ). refused n room) e)
 
-      module _ (b : badgeOk (q .badge .0) ≡ true) where
-        pub bad-room : length room < 16 * q .k → refused 4 room ≡ replyOf map q room
-        unfolding replyOf refusal
-        bad-room s = rw (p, k, b, lt-ltb (length room) (16 * q .k) s)
-
-        module _ (s : 16 * q .k ≤ length room) where
-          pub bad-map : accepted map ≡ false → refused 5 room ≡ replyOf map q room
-          unfolding replyOf refusal
-          bad-map a = rw (p, k, b, le-ltb (length room) (16 * q .k) s, a)
-
-          pub all-good : accepted map ≡ true → answered (pageOf map q) (q .k) room ≡ replyOf map q room
-          unfolding replyOf refusal
-          all-good a = rw (p, k, b, le-ltb (length room) (16 * q .k) s, a)
+  pub answered-page : own ≡ 0 → accepted map ≡ true → answered (pageOf map q) (q .k) room ≡ replyOf map q room
+  answered-page z a = sym (reply-page map q room (refusal-none q (length room) map z a))

@@ -12,18 +12,21 @@ use lib.Dec.{eqb, leb, ltb}
 use borrow.Author.Tests.{not-true, eq-eqb, ne-eqb}
 use Rattle.numbers.specs.Exactly.{Exactly}
 use Rattle.numbers.proofs.Exactly.{flag-is, eq-is, not-is, le-is, lt-is, and-is, or-is, means}
+use Rattle.numbers.specs.Tried.{Agree}
+use Rattle.numbers.proofs.Tried.{tried-exactly}
 use Rattle.numbers.proofs.Below.{ordered}
 use Rattle.measure.specs.Axis.{inRange}
 use Rattle.measure.specs.Answer.{pointOk}
 use Rattle.floor.specs.View.{viewOf}
 use Rattle.rules.specs.Verdicts.{Keeps, numberOf}
 use Rattle.rules.proofs.Verdicts.{accepted-complete}
-use Rattle.nearest.specs.declared.question.Question.{Question}
-use Rattle.nearest.specs.Badge.{badgeOk, allZones, zoneLimit}
+use Rattle.question.specs.declared.Question.{Question}
+use Rattle.question.specs.Badge.{badgeOk, allZones, zoneLimit}
 use Rattle.ask.specs.declared.Answer.{Answer}
 use Rattle.ask.specs.declared.Answer.the-variants.{PointOutside, CountOutside, BadgeRefused, RoomTooShort, MapRefused, Found}
-use Rattle.ask.specs.Reply.{answerNumber, answerFound, countOk, accepted, refusal, Reply, given, replyOf}
-use Rattle.ask.specs.Table.{BadPoint, BadCount, BadBadge, BadRoom, BadMap, Not, Table}
+use Rattle.record.specs.Record.{recordSize}
+use Rattle.ask.specs.Reply.{answerNumber, answerFound, countOk, accepted, tests, refusal, Reply, given, replyOf}
+use Rattle.ask.specs.Table.{BadMap, rows, Table}
 use Rattle.ask.proofs.Replies.{accepted-keeps}
 
 -- ---- each test, and what it is a test of
@@ -94,78 +97,14 @@ map-is map =
 
 -- ---- tried one after another
 
-off : (m n : ℕ) (t : Bool) {r : ℕ} → (n ≡ m → ⊥) → (r ≡ m → ⊥) → cond t n r ≡ m → ⊥
-off m n true h g = h
-off m n false h g = g
-
-here : (n : ℕ) (t : Bool) (r : ℕ) {P : Type 0} → Exactly t P → (r ≡ n → ⊥) → Exactly (eqb (cond t n r) n) P
-here n true r a h = record { sound = λ e. a .sound refl; complete = λ p. eq-eqb n n refl }
-here n false r a h =
-    record { sound = λ e. absurd (true≢false (sym e ∙ ne-eqb r n h)); complete = λ p. absurd (false≢true (a .complete p)) }
-
-past : (n m : ℕ) (t : Bool) (r : ℕ) {P Q : Type 0} → (n ≡ m → ⊥) → Exactly t P → Exactly (eqb r m) Q → Exactly (eqb (cond t n r) m) (Not P × Q)
-past n m true r h a b =
-    record { sound = λ e. absurd (true≢false (sym e ∙ ne-eqb n m h)); complete = λ p. absurd (p .0 (a .sound refl)) }
-past n m false r h a b = record { sound = λ e. ((λ p. false≢true (a .complete p)), b .sound e); complete = λ p. b .complete (p .1) }
-
-last : (t : Bool) {P : Type 0} → Exactly t P → Exactly (eqb (cond t 5 0) 0) (Not P)
-last true a = record { sound = λ e. absurd (false≢true e); complete = λ p. absurd (p (a .sound refl)) }
-last false a = record { sound = λ e p. false≢true (a .complete p); complete = λ p. refl }
-
--- the table over any five tests
-module _ (a b c d e : Bool) {A B C D E : Type 0} (p : Exactly a A) (k : Exactly b B) (z : Exactly c C) (s : Exactly d D) (m : Exactly e E) where
-  abbrev r₅ : ℕ
-  r₅ = cond e 5 0
-
-  abbrev r₄ : ℕ
-  r₄ = cond d 4 r₅
-
-  abbrev r₃ : ℕ
-  r₃ = cond c 3 r₄
-
-  abbrev r₂ : ℕ
-  r₂ = cond b 2 r₃
-
-  abbrev r₁ : ℕ
-  r₁ = cond a 1 r₂
-
-  is-one : Exactly (eqb r₁ 1) A
-  is-one = here 1 a r₂ p (off 1 2 b (λ x. omega arith) (off 1 3 c (λ x. omega arith) (off 1 4 d (λ x. omega arith) (off 1 5 e (λ x. omega arith) (λ x. omega arith)))))
-
-  is-two : Exactly (eqb r₁ 2) (Not A × B)
-  is-two = past 1 2 a r₂ (λ x. omega arith) p (here 2 b r₃ k (off 2 3 c (λ x. omega arith) (off 2 4 d (λ x. omega arith) (off 2 5 e (λ x. omega arith) (λ x. omega arith)))))
-
-  after-two : (n : ℕ) {Q : Type 0} → (1 ≡ n → ⊥) → (2 ≡ n → ⊥) → Exactly (eqb r₃ n) Q → Exactly (eqb r₁ n) (Not A × (Not B × Q))
-  after-two n h g x = past 1 n a r₂ h p (past 2 n b r₃ g k x)
-
-  is-three : Exactly (eqb r₁ 3) (Not A × (Not B × C))
-  is-three = after-two 3 (λ x. omega arith) (λ x. omega arith) (here 3 c r₄ z (off 3 4 d (λ x. omega arith) (off 3 5 e (λ x. omega arith) (λ x. omega arith))))
-
-  is-four : Exactly (eqb r₁ 4) (Not A × (Not B × (Not C × D)))
-  is-four = after-two 4 (λ x. omega arith) (λ x. omega arith) (past 3 4 c r₄ (λ x. omega arith) z (here 4 d r₅ s (off 4 5 e (λ x. omega arith) (λ x. omega arith))))
-
-  is-five : Exactly (eqb r₁ 5) (Not A × (Not B × (Not C × (Not D × E))))
-  is-five = after-two 5 (λ x. omega arith) (λ x. omega arith) (past 3 5 c r₄ (λ x. omega arith) z (past 4 5 d r₅ (λ x. omega arith) s (here 5 e 0 m (λ x. omega arith))))
-
-  is-none : Exactly (eqb r₁ 0) (Not A × (Not B × (Not C × (Not D × Not E))))
-  is-none = after-two 0 (λ x. omega arith) (λ x. omega arith) (past 3 0 c r₄ (λ x. omega arith) z (past 4 0 d r₅ (λ x. omega arith) s (last e m)))
-
 pub table-holds : (map : List ℕ) (q : Question) (size : ℕ) → q .badge .0 < 2 ^ 32 → Table map q size
-unfolding refusal
+unfolding refusal Agree
 table-holds map q size bits =
-    let p : Exactly (not (pointOk (q .from))) (BadPoint q) = not-both (inRange (q .from .x)) (inRange (q .from .y)) in
-    let k = count-is (q .k) in
-    let z = badge-is (q .badge .0) bits in
-    let s = lt-is size (16 * q .k) in
-    let m = map-is map in
-    record {
-      one = is-one _ _ _ _ _ p k z s m;
-      two = is-two _ _ _ _ _ p k z s m;
-      three = is-three _ _ _ _ _ p k z s m;
-      four = is-four _ _ _ _ _ p k z s m;
-      five = is-five _ _ _ _ _ p k z s m;
-      none = is-none _ _ _ _ _ p k z s m;
-    }
+    tried-exactly (tests map q size) (rows map q size) (
+      refl,
+      not-both (inRange (q .from .x)) (inRange (q .from .y)),
+      (refl, count-is (q .k), (refl, badge-is (q .badge .0) bits, (refl, lt-is size (recordSize * q .k), (refl, map-is map, tt)))),
+    )
 
 -- ---- the contract leaves no choice
 

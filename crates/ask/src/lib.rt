@@ -1,12 +1,13 @@
 // The question and its reply: the refusals in document 01's order, on the program's own checking, then the search, and
-// the page in the answer room. `ask` is for anyone, and has no `requires`.
+// the page in the answer room. `ask` is for anyone, and has no `requires`; it is made of what a question is refused for by
+// itself (`own_answer`), the yes or no of the check (`is_accepted`) and the page on an accepted map (`fill_page`).
 mod page;
 
 ghost use mathlib.Core.Path.{_≡_};
-ghost use Rattle.ask.specs.Reply.{answerNumber, answerFound, given, replyOf, countOk, accepted};
-use nearest::Question;
-use nearest::nearest;
-use page::write_page;
+ghost use Rattle.ask.specs.Reply.{answerNumber, answerFound, given, replyOf, countOk, accepted, OwnAnswer};
+pub use page::fill_page;
+use question::Question;
+use record::SIZE;
 use rules::check;
 
 // What a question is answered: `answerNumber` and `answerFound` give document 01's numbers for each case.
@@ -54,14 +55,10 @@ fn count_ok(k: usize) -> bool
     (1 <= k) & (k <= 100)
 }
 
-fn is_accepted(map: &[u8]) -> bool
-    ensures { λ r. ⌜ r ≡ accepted (now (map .entry)) ⌝ }
-{
-    check(map).number() == 0
-}
-
-pub fn ask(map: &[u8], q: Question, room: &mut [u8]) -> Answer
-    ensures { λ r. ⌜ given r (now (room .exit)) ≡ replyOf (now (map .entry)) q (now (room .entry)) ⌝ }
+// What a question is answered by itself, with a room of so many bytes: a refusal, or `Found(0)` where only the map can
+// say more. The refusals are tried in document 01's order.
+pub fn own_answer(q: Question, size: usize) -> Answer
+    ensures { λ r. ⌜ OwnAnswer q size r ⌝ }
 {
     let point = q.from.in_range();
     let count = count_ok(q.k);
@@ -75,13 +72,28 @@ pub fn ask(map: &[u8], q: Question, room: &mut [u8]) -> Answer
     if !badge {
         return Answer::BadgeRefused;
     }
-    if room.len() < 16 * q.k {
+    if size < SIZE * q.k {
         return Answer::RoomTooShort;
+    }
+    Answer::Found(0)
+}
+
+// Whether a map is accepted.
+pub fn is_accepted(map: &[u8]) -> bool
+    ensures { λ r. ⌜ r ≡ accepted (now (map .entry)) ⌝ }
+{
+    check(map).number() == 0
+}
+
+pub fn ask(map: &[u8], q: Question, room: &mut [u8]) -> Answer
+    ensures { λ r. ⌜ given r (now (room .exit)) ≡ replyOf (now (map .entry)) q (now (room .entry)) ⌝ }
+{
+    let own = own_answer(q, room.len());
+    if own.number() != 0 {
+        return own;
     }
     if !is_accepted(map) {
         return Answer::MapRefused;
     }
-    let best = nearest(map, q);
-    write_page(map, best, q.k, room);
-    Answer::Found(best.len)
+    Answer::Found(fill_page(map, q, room))
 }

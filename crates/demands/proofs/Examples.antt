@@ -13,7 +13,7 @@ use borrow.Author.Tests.{ltb-true}
 use Rattle.numbers.proofs.Tests.{both}
 use Rattle.measure.specs.Axis.{inRange, spanIn, squareOf, nearestOn}
 use Rattle.measure.specs.Axes.{minDist}
-use Rattle.words.specs.Words.{leAt, leBytes}
+use Rattle.words.specs.Words.{Bytes, leAt, leBytes}
 use Rattle.floor.specs.Written.{slotBytes, slotsBytes}
 use Rattle.floor.specs.View.{viewOf, filled}
 use Rattle.bays.specs.Bays.{twin, lone, baysOk}
@@ -29,12 +29,18 @@ use Rattle.tree.specs.Examples.{exampleMap}
 use Rattle.tree.proofs.Examples.{example-accepted}
 use Rattle.order.proofs.Place.{mem-each}
 use Rattle.order.specs.Order.{place, sortOnto, only, gather}
-use Rattle.nearest.specs.declared.question.Question.{Question}
-use Rattle.nearest.specs.Badge.{onBadge, badgeOk}
-use Rattle.nearest.specs.Shown.{before, allBays, wholeList, page}
-use Rattle.ask.specs.Reply.{countOk, accepted, refusal, pageOf, Reply, replyOf}
-use Rattle.demands.specs.Bays.{Entry, entries, visible, seenFrom, SameBays, Alike}
-use Rattle.demands.specs.Runs.{replyTo, joined, start, acceptedIn, Bytes, Turn, asking, pageOn, Run}
+use Rattle.question.specs.declared.mark.Mark.{Mark}
+use Rattle.question.specs.declared.Question.{Question}
+use Rattle.question.specs.Mark.{before, start}
+use Rattle.question.specs.Badge.{onBadge, badgeOk}
+use Rattle.tree.specs.Bays.{allBays}
+use Rattle.nearest.specs.Shown.{shownAt, wholeList, page}
+use Rattle.numbers.specs.Tried.{firstGiven}
+use Rattle.record.specs.Record.{recordSize}
+use Rattle.ask.specs.Told.{pageOf}
+use Rattle.ask.specs.Reply.{countOk, accepted, refusal, Reply, replyOf}
+use Rattle.demands.specs.Bays.{Bay, visible, seenFrom, SameBays, Alike}
+use Rattle.demands.specs.Runs.{replyTo, joined, acceptedIn, Turn, asking, pageOn, Run}
 use Rattle.demands.specs.Demands.{listOn}
 use Rattle.demands.specs.Examples.{tallMap, movedMap, lamp, question}
 use Rattle.ask.proofs.Answers.{reply-page, number-is}
@@ -60,14 +66,14 @@ moved-taken = taken movedMap (computed .1)
 
 -- ---- what they show badge 8
 
-abbrev bay7 : Entry
-bay7 = record { bay = 7; zone = 3; bounds = record { x = record { low = pos 10; high = pos 20 }; y = record { low = pos 0; high = pos 5 } } }
+abbrev pub bay7 : Bay
+bay7 = record { number = 7; zone = 3; bounds = record { x = record { low = pos 10; high = pos 20 }; y = record { low = pos 0; high = pos 5 } } }
 
-abbrev bay4 : Entry
-bay4 = record { bay = 4; zone = 3; bounds = record { x = record { low = pos 0; high = pos 2 }; y = record { low = pos 0; high = pos 2 } } }
+abbrev pub bay4 : Bay
+bay4 = record { number = 4; zone = 3; bounds = record { x = record { low = pos 0; high = pos 2 }; y = record { low = pos 0; high = pos 2 } } }
 
 shown : (visible 8 exampleMap ≡ bay7 ∷ bay4 ∷ []) × (visible 8 tallMap ≡ bay4 ∷ bay7 ∷ []) × (visible 8 movedMap ≡ bay7 ∷ [])
-unfolding visible entries gather only onBadge viewOf filled leAt leBytes slotBytes slotsBytes
+unfolding visible allBays shownAt gather only onBadge viewOf filled leAt leBytes slotBytes slotsBytes
 shown = (refl, refl, refl)
 
 turned : {A : Type 0} (a b x : A) → List·Memᴰ x (a ∷ b ∷ []) → List·Memᴰ x (b ∷ a ∷ [])
@@ -94,13 +100,13 @@ same-answers q room e = demand-3 .depends-only exampleMap tallMap q room (rw e a
 
 -- how many bays a map with room for the page gives the question
 found-is : (m : List ℕ) → accepted m ≡ true → replyOf m question (replicate 32 0) .found ≡ length (pageOf m question)
-unfolding refusal inRange badgeOk lib.Count.ones lib.Count.onesIn
+unfolding refusal firstGiven inRange badgeOk lib.Count.ones lib.Count.onesIn
 found-is m ok =
     let none : refusal m question 32 ≡ 0 = rw ok in
     ap (λ (r : Reply). r .found) (reply-page m question (replicate 32 0) none)
 
-pages : (length (pageOf exampleMap question) ≡ 2) × (length (pageOf movedMap question) ≡ 1)
-unfolding page wholeList allBays gather only place sortOnto before onBadge minDist squareOf nearestOn viewOf filled leAt leBytes slotBytes slotsBytes
+pub pages : (length (pageOf exampleMap question) ≡ 2) × (length (pageOf movedMap question) ≡ 1)
+unfolding page wholeList allBays shownAt gather only place sortOnto before onBadge minDist squareOf nearestOn viewOf filled leAt leBytes slotBytes slotsBytes
 pages = (refl, refl)
 
 pub differs : replyOf exampleMap question (replicate 32 0) ≡ replyOf movedMap question (replicate 32 0) → ⊥
@@ -120,17 +126,17 @@ bytes-are [] e i = omega arith
 bytes-are (x ∷ xs) e zero = ltb-true x 256 (both (ltb x 256) (bytesOk xs) e .0)
 bytes-are (x ∷ xs) e (suc i) = bytes-are xs (both (ltb x 256) (bytesOk xs) e .1) i
 
-abbrev turn : List ℕ → ℕ → Turn
+abbrev pub turn : List ℕ → ℕ → Turn
 turn m k = record { map = m; k = k; room = replicate 32 9 }
 
 abbrev pub day : List Turn
 day = turn exampleMap 1 ∷ turn tallMap 1 ∷ turn exampleMap 2 ∷ []
 
 -- what is asked of the maps of a run that is at home on the example map
-abbrev Fair : Turn → Type 0
+abbrev pub Fair : Turn → Type 0
 Fair t = Bytes (t .map) × (accepted (t .map) ≡ true → SameBays 8 exampleMap (t .map))
 
-example-fair : (k : ℕ) → Fair (turn exampleMap k)
+pub example-fair : (k : ℕ) → Fair (turn exampleMap k)
 unfolding leBytes slotBytes slotsBytes
 example-fair k = (bytes-are exampleMap refl, λ _. record { there = λ x m. m; back = λ x m. m })
 
@@ -143,24 +149,24 @@ fair t m =
     mem-each Fair (example-fair 1)
     (λ u i. mem-each Fair (tall-fair 1) (λ w j. mem-each Fair (example-fair 2) (λ z k. absurd (List·Memᴰ·not-nil k)) w j) u i) t m
 
-good : (m : List ℕ) (k : ℕ) → accepted m ≡ true → countOk k ≡ true → ltb 32 (16 * k) ≡ false → replyTo (asking 8 lamp start (turn m k)) .number ≡ 0
-unfolding refusal inRange badgeOk lib.Count.ones lib.Count.onesIn
-good m k ok low fits =
-    number-is m (asking 8 lamp start (turn m k) .question) (replicate 32 9) ∙ rw (low, fits, ok)
+pub good : (mark : Mark) (m : List ℕ) (k : ℕ) → accepted m ≡ true → countOk k ≡ true → ltb 32 (recordSize * k) ≡ false → replyTo replyOf (asking 8 lamp mark (turn m k)) .number ≡ 0
+unfolding refusal firstGiven inRange badgeOk lib.Count.ones lib.Count.onesIn
+good mark m k ok low fits =
+    number-is m (asking 8 lamp mark (turn m k) .question) (replicate 32 9) ∙ rw (low, fits, ok)
 
-three : acceptedIn (map (asking 8 lamp start) day) ≡ 3
+three : acceptedIn replyOf (map (asking 8 lamp start) day) ≡ 3
 unfolding acceptedIn
-three = rw (good exampleMap 1 example-taken refl refl, good tallMap 1 tall-taken refl refl, good exampleMap 2 example-taken refl refl)
+three = rw (good start exampleMap 1 example-taken refl refl, good start tallMap 1 tall-taken refl refl, good start exampleMap 2 example-taken refl refl)
 
-pub day-ends : Run 8 lamp exampleMap start (pageOn 8 lamp start day) true
+pub day-ends : Run replyOf 8 lamp exampleMap start (pageOn replyOf 8 lamp start day) true
 day-ends =
     demand-3 .pages 8 lamp exampleMap example-taken .comes-short day fair
     (let two : length (visible 8 exampleMap) ≡ 2 = ap length (shown .0) in omega (arith, three, two))
 
-whole : listOn exampleMap 8 lamp ≡ seenFrom lamp bay4 ∷ seenFrom lamp bay7 ∷ []
-unfolding wholeList allBays gather only place sortOnto before onBadge minDist squareOf nearestOn viewOf filled leAt leBytes slotBytes slotsBytes
+pub whole : listOn exampleMap 8 lamp ≡ seenFrom lamp bay4 ∷ seenFrom lamp bay7 ∷ []
+unfolding wholeList allBays shownAt gather only place sortOnto before onBadge minDist squareOf nearestOn viewOf filled leAt leBytes slotBytes slotsBytes
 whole = refl
 
 -- its pages joined: bay 4, then bay 7, each at 16
-pub day-joined : joined (pageOn 8 lamp start day) ≡ seenFrom lamp bay4 ∷ seenFrom lamp bay7 ∷ []
-day-joined = demand-3 .pages 8 lamp exampleMap example-taken .joins (pageOn 8 lamp start day) day-ends ∙ whole
+pub day-joined : joined replyOf (pageOn replyOf 8 lamp start day) ≡ seenFrom lamp bay4 ∷ seenFrom lamp bay7 ∷ []
+day-joined = demand-3 .pages 8 lamp exampleMap example-taken .joins (pageOn replyOf 8 lamp start day) day-ends ∙ whole

@@ -3,3 +3,4 @@ pub mod Whole
 pub mod Pages
 pub mod Demands
 pub mod Examples
+pub mod Refuted

@@ -6,8 +6,8 @@ use lib.IntN.{pos}
 use Rattle.measure.specs.declared.Point.{Point}
 use Rattle.measure.specs.declared.Span.{Span}
 use Rattle.tree.specs.Examples.{header, node, from, bayIn, blanks}
-use Rattle.nearest.specs.declared.question.Mark.{Mark}
-use Rattle.nearest.specs.declared.question.Question.{Question}
+use Rattle.question.specs.declared.mark.Mark.{Mark}
+use Rattle.question.specs.declared.Question.{Question}
 
 -- a slot above the leaves: x, y, and the node that it names
 abbrev pub linkTo : Span → Span → ℕ → List ℕ
@@ -48,4 +48,4 @@ lamp = record { x = pos 6; y = pos 2 }
 
 abbrev pub question : Question
 question =
-    record { from = lamp; k = 2; badge = record { 0 = 8 }; mark = record { dsq = record { 0 = 0 }; bay = 0 } }
+    record { from = lamp; k = 2; badge = record { 0 = 8 }; mark = record { far = record { 0 = 0 }; bay = 0 } }

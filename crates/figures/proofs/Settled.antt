@@ -22,9 +22,14 @@ use Rattle.rules.specs.Spans.{sameSpan}
 use Rattle.rules.specs.Boxes.{boxesOk}
 use Rattle.rules.specs.Verdicts.{firstBroken, verdictOf}
 use Rattle.order.specs.Order.{place, sortOnto, only, gather}
-use Rattle.nearest.specs.Badge.{allZones, zoneLimit, onBadge, badgeOk}
-use Rattle.nearest.specs.Shown.{before, allBays, wholeList, page}
-use Rattle.ask.specs.Reply.{refusal, pageOf}
+use Rattle.question.specs.Badge.{allZones, zoneLimit, onBadge, badgeOk}
+use Rattle.numbers.specs.Tried.{firstGiven}
+use Rattle.tree.specs.Bays.{allBays}
+use Rattle.question.specs.Mark.{before}
+use Rattle.nearest.specs.Shown.{shownAt, wholeList, page}
+use Rattle.record.specs.Record.{recordSize}
+use Rattle.ask.specs.Told.{pageOf}
+use Rattle.ask.specs.Reply.{refusal}
 use Rattle.figures.specs.Figures.{Claim, measures, asks, zones, plain, seen, Holds, Figure, table, AllHold}
 
 -- the tests, and what each shows
@@ -73,7 +78,7 @@ passes-badge n = rw (ones-ones n)
 abbrev test : Claim → Bool
 test (measures p b least promised) =
     answers (measuredBy minDist (axesOf p b)) least && answers (measuredBy minMaxDist (axesOf p b)) promised
-test (asks m q n found) = eqb (refusal m q (16 * q .k)) n && matches (map seen (pageOf m q)) found
+test (asks m q n found) = eqb (refusal m q (recordSize * q .k)) n && matches (map seen (pageOf m q)) found
 test (zones n t) = says (passes n) t
 test (plain d r) = leb (r * r) d && ltb d ((r + 1) * (r + 1))
 
@@ -82,7 +87,7 @@ test-sound (measures p b least promised) t =
     let h = and-yes (answers (measuredBy minDist (axesOf p b)) least) _ t in
     (answers-sound _ _ (h .0), answers-sound _ _ (h .1))
 test-sound (asks m q n found) t =
-    let h = and-yes (eqb (refusal m q (16 * q .k)) n) _ t in
+    let h = and-yes (eqb (refusal m q (recordSize * q .k)) n) _ t in
     (eqb→eq _ n (h .0), matches-sound _ found (h .1))
 test-sound (zones n t) h = rw (passes-badge n) (says-sound (passes n) t h)
 test-sound (plain d r) t =
@@ -100,5 +105,5 @@ tests-sound (f ∷ fs) t =
     (test-sound (f .claim) (h .0), tests-sound fs (h .1))
 
 pub settled : AllHold table
-unfolding inRange pointIn spanIn squareOf nearestOn lowIsNear lowIsFar minDist minMaxDist measuredBy refusal badgeOk verdictOf firstBroken headerOk fieldsOk formOk slotOk entryOk referOk blankOk fillOk linksOk namedOk named stepOk sameSpan boxesOk baysOk lone twin viewOf filled leAt leBytes slotBytes slotsBytes ones onesIn onBadge before allBays wholeList page place sortOnto only gather
+unfolding inRange pointIn spanIn squareOf nearestOn lowIsNear lowIsFar minDist minMaxDist measuredBy refusal firstGiven badgeOk verdictOf firstBroken headerOk fieldsOk formOk slotOk entryOk referOk blankOk fillOk linksOk namedOk named stepOk sameSpan boxesOk baysOk lone twin viewOf filled leAt leBytes slotBytes slotsBytes ones onesIn onBadge before allBays shownAt wholeList page place sortOnto only gather
 settled = tests-sound table tt

@@ -11,15 +11,17 @@ use Rattle.measure.specs.Axes.{minDist, minMaxDist}
 use Rattle.measure.specs.Answer.{axesOf, measuredBy, reply}
 use Rattle.measure.specs.Root.{RootOf}
 use Rattle.tree.specs.Examples.{emptyMap, exampleMap}
-use Rattle.nearest.specs.declared.near_bay.NearBay.{NearBay}
-use Rattle.nearest.specs.declared.question.Question.{Question}
-use Rattle.nearest.specs.Badge.{badgeOk}
-use Rattle.ask.specs.Reply.{refusal, pageOf}
+use Rattle.record.specs.declared.Record.{Record}
+use Rattle.question.specs.declared.Question.{Question}
+use Rattle.question.specs.Badge.{badgeOk}
+use Rattle.record.specs.Record.{recordSize}
+use Rattle.ask.specs.Told.{pageOf}
+use Rattle.ask.specs.Reply.{refusal}
 
 pub data Claim : Type 0 where
   -- a point and a box, with MINDIST and MINMAXDIST, neither refused
   measures : Point → Bounds → ℕ → ℕ → Claim
-  -- a question on a map, with a room of 16·k bytes: the answer's number, and the page's bays with their squared distances
+  -- a question on a map, with a room for k records: the answer's number, and the page's bays with their squared distances
   asks : List ℕ → Question → ℕ → List (ℕ × ℕ) → Claim
   -- how many zones a badge has, and whether it passes
   zones : ℕ → Bool → Claim
@@ -27,13 +29,13 @@ pub data Claim : Type 0 where
   plain : ℕ → ℕ → Claim
 
 -- a bay of a page, with its squared distance
-abbrev pub seen : NearBay → ℕ × ℕ
-seen e = (e .bay, e .dsq .0)
+abbrev pub seen : Record → ℕ × ℕ
+seen e = (e .bay, e .far .0)
 
 abbrev pub Holds : Claim → Type 0
 Holds (measures p b least promised) =
     (measuredBy minDist (axesOf p b) ≡ reply 0 least) × (measuredBy minMaxDist (axesOf p b) ≡ reply 0 promised)
-Holds (asks m q n found) = (refusal m q (16 * q .k) ≡ n) × (map seen (pageOf m q) ≡ found)
+Holds (asks m q n found) = (refusal m q (recordSize * q .k) ≡ n) × (map seen (pageOf m q) ≡ found)
 Holds (zones n t) = badgeOk (2 ^ n - 1) ≡ t
 Holds (plain d r) = RootOf d r
 
@@ -56,7 +58,7 @@ minus n = negℤ (pos n)
 -- a question from a point: how many bays, the badge, and the mark's squared distance and bay
 abbrev question : Point → ℕ → ℕ → ℕ → ℕ → Question
 question from k badge dsq bay =
-    record { from = from; k = k; badge = record { 0 = badge }; mark = record { dsq = record { 0 = dsq }; bay = bay } }
+    record { from = from; k = k; badge = record { 0 = badge }; mark = record { far = record { 0 = dsq }; bay = bay } }
 
 abbrev pub table : List Figure
 table =

@@ -8,9 +8,9 @@ use libc::STDOUT_FILENO;
 use measure::Bounds;
 use measure::Point;
 use measure::SquaredMm;
-use nearest::Question;
+use question::Question;
+use record::record_at;
 use rules::check;
-use words::u32_at;
 
 // A figure's two measures, each with its answer.
 pub fn measures(figure: u64, p: Point, b: Bounds) {
@@ -76,20 +76,19 @@ fn ask_within(map: &[u8], q: Question, room: &mut [u8], size: usize) -> Answer
 fn records(room: &[u8; 1616], found: usize) {
     for i in 0..101 {
         if i < found {
-            record(room, 16 * i);
+            told(room, i);
         }
     }
 }
 
-fn record(room: &[u8; 1616], at: usize)
-    requires { ⌜ at ≤ 1600 ⌝ }
+fn told(room: &[u8; 1616], i: usize)
+    requires { ⌜ i ≤ 100 ⌝ }
 {
+    let r = record_at(room, i);
     text(b", bay ");
-    number(u32_at(room, at) as u64);
+    number(r.bay as u64);
     text(b" dsq ");
-    let low = u32_at(room, at + 8) as u64;
-    let high = u32_at(room, at + 12) as u64;
-    number(low + 4294967296 * high);
+    number(r.far.0);
 }
 
 // A figure's number, and which part of it a line is about.

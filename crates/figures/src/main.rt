@@ -10,12 +10,12 @@ use lines::reply;
 use lines::verdict;
 use maps::bytes_of;
 use measure::Bounds;
+use measure::HowFar;
 use measure::Point;
 use measure::Span;
-use measure::SquaredMm;
-use nearest::Badge;
-use nearest::Mark;
-use nearest::Question;
+use question::Badge;
+use question::Mark;
+use question::Question;
 
 fn main() {
     measured();
@@ -141,7 +141,7 @@ fn bounds(xlow: i32, xhigh: i32, ylow: i32, yhigh: i32) -> Bounds {
 
 fn mark(dsq: u64, bay: u32) -> Mark {
     Mark {
-        dsq: SquaredMm(dsq),
+        far: HowFar(dsq),
         bay,
     }
 }

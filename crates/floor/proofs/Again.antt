@@ -33,23 +33,24 @@ module _ (bs m : List ℕ) (at : ℕ) where
       let place : p + d ≡ at + (e + d) = omega arith in
       rw place (le-within bs m at k (e + d) (omega arith) fits)
 
-  -- what the view shows of what lies apart
-  module _ where
-    header-kept : headerSize ≤ at → headerOf (viewOf (sets m at bs)) ≡ headerOf (viewOf m)
-    unfolding viewOf
-    header-kept h = header-same (sets m at bs) m (apart headerSize 0 (inl (omega arith)))
+  -- what the view shows of what lies apart is as it was
+  header-kept : headerSize ≤ at → headerOf (viewOf (sets m at bs)) ≡ headerOf (viewOf m)
+  unfolding viewOf
+  header-kept h = header-same (sets m at bs) m (apart headerSize 0 (inl (omega arith)))
 
-    head-kept : (n : ℕ) → (nodeAt n + headSize ≤ at) ⊎ (at + length bs ≤ nodeAt n) → headOf (viewOf (sets m at bs)) n ≡ headOf (viewOf m) n
-    unfolding viewOf
-    head-kept n h = head-same (sets m at bs) (nodeAt n) m (nodeAt n) (apart headSize (nodeAt n) h)
+  head-kept : (n : ℕ) → (nodeAt n + headSize ≤ at) ⊎ (at + length bs ≤ nodeAt n)
+      → headOf (viewOf (sets m at bs)) n ≡ headOf (viewOf m) n
+  unfolding viewOf
+  head-kept n h = head-same (sets m at bs) (nodeAt n) m (nodeAt n) (apart headSize (nodeAt n) h)
 
-    slot-kept : (j : ℕ) → (slotAt j + slotSize axisCount ≤ at) ⊎ (at + length bs ≤ slotAt j) → slotOf (viewOf (sets m at bs)) j ≡ slotOf (viewOf m) j
-    unfolding viewOf
-    slot-kept j h = slot-same (sets m at bs) (slotAt j) m (slotAt j) (apart (slotSize axisCount) (slotAt j) h)
+  slot-kept : (j : ℕ) → (slotAt j + slotSize axisCount ≤ at) ⊎ (at + length bs ≤ slotAt j)
+      → slotOf (viewOf (sets m at bs)) j ≡ slotOf (viewOf m) j
+  unfolding viewOf
+  slot-kept j h = slot-same (sets m at bs) (slotAt j) m (slotAt j) (apart (slotSize axisCount) (slotAt j) h)
 
-    size-kept : viewOf (sets m at bs) .size ≡ viewOf m .size
-    unfolding viewOf
-    size-kept = length-sets m at bs
+  size-kept : viewOf (sets m at bs) .size ≡ viewOf m .size
+  unfolding viewOf
+  size-kept = length-sets m at bs
 
 -- ---- slot j written anew
 
@@ -82,7 +83,8 @@ module _ (m : List ℕ) (j : ℕ) (s : Slot) where
 
 -- ---- alike by parts
 
-alike-by : (v w : View) → v .size ≡ w .size → headerOf v ≡ headerOf w → ((n : ℕ) → headOf v n ≡ headOf w n) → ((j : ℕ) → slotOf v j ≡ slotOf w j) → Alike v w
+alike-by : (v w : View) → v .size ≡ w .size → headerOf v ≡ headerOf w → ((n : ℕ) → headOf v n ≡ headOf w n)
+    → ((j : ℕ) → slotOf v j ≡ slotOf w j) → Alike v w
 alike-by v w size header head slot =
     record {
       size = size;

@@ -1,7 +1,7 @@
 -- The stores of the code, one after the other, are the bytes that the contracts name. Assumes nothing.
 use mathlib.Core.Path.{_≡_, refl, ap, ap₂, _∙_}
 use mathlib.Core.List.{List, _++_}
-use Prim.Native.Nat.{ℕ, suc, _+_, _*_, _<_}
+use Prim.Native.Nat.{ℕ, suc, _+_, _*_, _<_, _≤_}
 use native.Mathlib.Numerals.{add-one}
 use native.Mathlib.Omega.{arith}
 use lib.ListN.{length, getD, set, length-append}
@@ -10,7 +10,7 @@ use Rattle.words.specs.Words.{leBytes, i32Bytes}
 use Rattle.words.proofs.Stores.{sets-next, length-bytes, byte-alone}
 use Rattle.measure.specs.declared.Span.{Span}
 use Rattle.floor.specs.declared.Slot.{Slot}
-use Rattle.floor.specs.Layout.{axisCount, headSize, spanSize, slotSize, refFrom, zoneFrom, nodeAt}
+use Rattle.floor.specs.Layout.{axisCount, headSize, nodeSize, spanSize, slotSize, refFrom, zoneFrom, nodeAt}
 use Rattle.floor.specs.Written.{spanBytes, spansBytes, slotBytes, headBytes, blank, whole, slotsBytes, putNode, putHeader}
 use Rattle.floor.proofs.Own.{spans-length, slots-length}
 
@@ -39,7 +39,8 @@ module _ (l : List ℕ) (at : ℕ) where
       ∙ sets-next l at (zoneFrom axisCount) (spans ++ ref) (leBytes 4 (s .zone)) long
       ∙ ap (λ (z : List ℕ). sets l at (spans ++ ref ++ z)) (byte-alone 3 (s .zone) h)
 
-  pub head-laid : (level occupied : ℕ) → set (set (set (set l at level) (at + 1) occupied) (at + 2) 0) (at + 3) 0 ≡ sets l at (headBytes level occupied)
+  pub head-laid : (level occupied : ℕ)
+      → set (set (set (set l at level) (at + 1) occupied) (at + 2) 0) (at + 3) 0 ≡ sets l at (headBytes level occupied)
   head-laid level occupied =
       let p₁ : at + 1 ≡ suc at = omega arith in
       let p₂ : at + 2 ≡ suc (suc at) = omega arith in
@@ -63,6 +64,14 @@ within-list slots i a b h =
     let f = drop-cons slots i b h in
     cc
 
+-- the first i slots of node n are written
+pub record Laying (m now : List ℕ) (n : ℕ) (slots : List Slot) (i : ℕ) : Type 0 where
+  pub most : i ≤ 8
+  pub few : n < 256
+  pub eight : length slots ≡ 8
+  pub inside : nodeAt n + nodeSize axisCount ≤ length now
+  pub is : now ≡ sets m (nodeAt n + headSize) (slotsBytes slots i)
+
 -- one slot more, as the loop writes it
 pub slots-more : (l : List ℕ) (at : ℕ) (slots : List Slot) (i place : ℕ) (past : Slot) (now : List ℕ) {last : List ℕ} → i < length slots
     → place ≡ at + slotSize axisCount * i → now ≡ sets l at (slotsBytes slots i) → last ≡ sets now place (slotBytes (getD slots i past))
@@ -78,7 +87,8 @@ slots-more l at slots i place past now h p before after =
     ∙ sets-next l at (slotSize axisCount * i) (slotsBytes slots i) new (slots-length slots i))
 
 -- the head, then the slots
-pub node-laid : (m : List ℕ) (n level occupied : ℕ) (slots : List Slot) (i : ℕ) {head last : List ℕ} → head ≡ sets m (nodeAt n) (headBytes level occupied)
+pub node-laid : (m : List ℕ) (n level occupied : ℕ) (slots : List Slot) (i : ℕ) {head last : List ℕ}
+    → head ≡ sets m (nodeAt n) (headBytes level occupied)
     → i ≡ 8 → last ≡ sets head (nodeAt n + headSize) (slotsBytes slots i) → last ≡ putNode m n (whole level occupied slots)
 node-laid m n level occupied slots i e all f =
     f

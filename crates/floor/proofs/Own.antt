@@ -66,13 +66,15 @@ span-after : (p rest : List ℕ) (at : ℕ) → length p ≡ at → (s : Span) �
 span-after p rest at e s f =
     let first = i32Bytes (s .low) in
     let second = i32Bytes (s .high) in
-    let whole : p ++ (first ++ second ++ rest) ≡ p ++ (first ++ (second ++ rest)) = ap (λ (l : List ℕ). p ++ l) (append-assoc first second rest) in
+    let whole : p ++ (first ++ second ++ rest) ≡ p ++ (first ++ (second ++ rest)) =
+    ap (λ (l : List ℕ). p ++ l) (append-assoc first second rest) in
     let high = signed-after (s .high) (f .high) (p ++ first) rest (at + 4) (simp (length-append, length-bytes, e)) in
     let one = ap (λ (l : List ℕ). i32At l at) whole ∙ signed-after (s .low) (f .low) p (second ++ rest) at e in
     let two = ap (λ (l : List ℕ). i32At l (at + 4)) (whole ∙ sym (append-assoc p first (second ++ rest))) ∙ high in
     λ i. record { low = one i; high = two i }
 
-spans-own : (b : Bounds) (n : ℕ) (rest : List ℕ) (a : ℕ) → a < n → Ends (spanOn b a) → spanAt (spansBytes b n ++ rest) (spanFrom a) ≡ spanOn b a
+spans-own : (b : Bounds) (n : ℕ) (rest : List ℕ) (a : ℕ) → a < n → Ends (spanOn b a)
+    → spanAt (spansBytes b n ++ rest) (spanFrom a) ≡ spanOn b a
 spans-own b zero rest a h f = absurd (omega arith)
 spans-own b (suc n) rest a h f =
     rw (append-assoc (spansBytes b n) (spanBytes (spanOn b n)) rest)
@@ -97,7 +99,8 @@ module _ (s : Slot) (f : SlotFits s) where
   own-ref : leAt 4 (slotBytes s) (refFrom axisCount) ≡ s .reference
   own-ref =
       ap (λ (l : List ℕ). leAt 4 l (refFrom axisCount)) (slot-parts s)
-      ∙ bytes-after 4 (s .reference) (spansBytes (s .bounds) axisCount) (s .zone ∷ replicate 3 0) (refFrom axisCount) (spans-length (s .bounds) axisCount) (f .reference)
+      ∙ bytes-after 4 (s .reference) (spansBytes (s .bounds) axisCount) (s .zone ∷ replicate 3 0) (refFrom axisCount)
+      (spans-length (s .bounds) axisCount) (f .reference)
 
   own-zone : (leAt 1 (slotBytes s) (zoneFrom axisCount) ≡ s .zone) × (leAt 3 (slotBytes s) (zerosFrom axisCount) ≡ 0)
   unfolding slotBytes leBytes leAt
@@ -114,14 +117,16 @@ module _ (s : Slot) (f : SlotFits s) where
 
 -- ---- a node
 
-pub head-own : (level occupied : ℕ) (rest : List ℕ) → headFrom (headBytes level occupied ++ rest) 0 ≡ record { level = level; occupied = occupied; clear = true }
+pub head-own : (level occupied : ℕ) (rest : List ℕ)
+    → headFrom (headBytes level occupied ++ rest) 0 ≡ record { level = level; occupied = occupied; clear = true }
 unfolding leAt
 head-own level occupied rest =
     let first : level + 256 * 0 ≡ level = omega arith in
     let second : occupied + 256 * 0 ≡ occupied = omega arith in
     λ i. record { level = first i; occupied = second i; clear = true }
 
-slots-agree : (slots : List Slot) (n i : ℕ) → i < n → Agree (slotSize axisCount) (slotsBytes slots n) (slotSize axisCount * i) (slotBytes (getD slots i blank)) 0
+slots-agree : (slots : List Slot) (n i : ℕ) → i < n
+    → Agree (slotSize axisCount) (slotsBytes slots n) (slotSize axisCount * i) (slotBytes (getD slots i blank)) 0
 unfolding slotsBytes
 slots-agree slots zero i h k d l = absurd (omega arith)
 slots-agree slots (suc n) i h k d l =
@@ -130,18 +135,23 @@ slots-agree slots (suc n) i h k d l =
       | yes q ↦
           let e : slotSize axisCount * n + d ≡ length (slotsBytes slots n) + d = omega arith in
           rw (q, e, le-after k d (slotsBytes slots n) (slotBytes (getD slots n blank)), zero-add d)
-      | no r ↦ le-before k (slotSize axisCount * i + d) (slotsBytes slots n) (slotBytes (getD slots n blank)) (omega arith) ∙ slots-agree slots n i (omega arith) k d l
+      | no r ↦
+          le-before k (slotSize axisCount * i + d) (slotsBytes slots n) (slotBytes (getD slots n blank)) (omega arith)
+          ∙ slots-agree slots n i (omega arith) k d l
     ]
 
 -- slot i of a node's bytes
-pub node-agree : (h : Whole) (i : ℕ) → i < 8 → Agree (slotSize axisCount) (nodeBytes h) (headSize + slotSize axisCount * i) (slotBytes (getD (h .slots) i blank)) 0
+pub node-agree : (h : Whole) (i : ℕ) → i < 8
+    → Agree (slotSize axisCount) (nodeBytes h) (headSize + slotSize axisCount * i) (slotBytes (getD (h .slots) i blank)) 0
 node-agree h i less k d l =
     let e : headSize + slotSize axisCount * i + d ≡ 4 + (slotSize axisCount * i + d) = omega arith in
-    rw e (le-after k (slotSize axisCount * i + d) (headBytes (h .level) (h .occupied)) (slotsBytes (h .slots) 8) ∙ slots-agree (h .slots) 8 i less k d l)
+    rw e (le-after k (slotSize axisCount * i + d) (headBytes (h .level) (h .occupied)) (slotsBytes (h .slots) 8)
+    ∙ slots-agree (h .slots) 8 i less k d l)
 
 -- ---- a header
 
-pub header-own : (count root height : ℕ) → HeaderFits count root height → headerFrom (headerBytes count root height) ≡ record { count = count; root = root; height = height; clear = true }
+pub header-own : (count root height : ℕ) → HeaderFits count root height
+    → headerFrom (headerBytes count root height) ≡ record { count = count; root = root; height = height; clear = true }
 unfolding leAt leBytes
 header-own count root height f =
     let c = f .few in

@@ -20,6 +20,24 @@ pub struct SquaredMm(pub u64);
 // A length, in millimetres.
 pub struct Mm(pub u64);
 
+// How far a box is from a point, by the measure of the map that it stands on: the number in a mark, in a record and in the
+// best list. It is made of what a measure gives, and becomes that again, and nothing else.
+pub struct HowFar(pub u64);
+
+impl HowFar {
+    pub fn of_squared(d: SquaredMm) -> HowFar
+        ensures { λ r. ⌜ r .0 ≡ d .0 ⌝ }
+    {
+        HowFar(d.0)
+    }
+
+    pub fn squared(self) -> SquaredMm
+        ensures { λ r. ⌜ r .0 ≡ self .0 ⌝ }
+    {
+        SquaredMm(self.0)
+    }
+}
+
 // A place on the floor, in millimetres.
 pub struct Point {
     pub x: i32,

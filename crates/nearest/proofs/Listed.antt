@@ -1,17 +1,27 @@
--- The bays of a best list, one by one. Assumes nothing.
-use mathlib.Core.Path.{_≡_, ap, _∙_}
-use Prim.Native.Nat.{ℕ, _<_}
-use native.Mathlib.Omega.{arith}
-use lib.ListN.{length, getD, length-map, List·getD-map}
-use lib.Seq.{length-take-le, getD-take}
-use Rattle.floor.specs.View.{View}
-use Rattle.nearest.specs.declared.best.Best.{Best}
-use Rattle.nearest.specs.Best.{bayOf, keysOf, listOf, Carried}
+-- The slots of the whole list and of a page: they are those of bays that the badge is shown, each once. Assumes nothing.
+use Prim.Native.Nat.{ℕ, _*_, _<_}
+use mathlib.Core.Path.{_≡_}
+use mathlib.Core.Bool.{true}
+use mathlib.Core.List.{List, List·Memᴰ}
+use Rattle.floor.specs.View.{View, bay}
+use Rattle.tree.specs.Bays.{allBays}
+use Rattle.tree.proofs.Spanning.{flat-bays}
+use Rattle.order.specs.Order.{only, sort}
+use Rattle.order.proofs.Only.{only-out}
+use Rattle.order.proofs.Kept.{take-out}
+use Rattle.order.proofs.Sorting.{sort-out}
+use Rattle.question.specs.declared.mark.Mark.{Mark}
+use Rattle.nearest.specs.Shown.{earlier, shownAt, afterMark, wholeList, page}
+use Rattle.nearest.proofs.Keyed.{BaySlot}
 
-module _ (v : View) (k : ℕ) (best : Best) (held : Carried v k best) where
-  pub length-list : length (listOf v best) ≡ best .len
-  length-list =
-      length-map (keysOf best) (bayOf v) ∙ length-take-le (best .len) (best .keys) (omega (arith, held .high, held .room, held .fits))
+module _ (v : View) (distance : ℕ → ℕ) (badge : ℕ) where
+  pub whole-bay : (j : ℕ) → List·Memᴰ j (wholeList v distance badge) → BaySlot v j
+  unfolding wholeList
+  whole-bay j m =
+      flat-bays v j (only-out (shownAt v badge) j (allBays v) (sort-out (earlier v distance) j (only (shownAt v badge) (allBays v)) m) .0)
 
-  pub bay-at : (i : ℕ) → i < best .len → getD (listOf v best) i (bayOf v 0) ≡ bayOf v (getD (best .keys) i 0)
-  bay-at i h = List·getD-map (bayOf v) (keysOf best) i 0 ∙ ap (bayOf v) (getD-take (best .len) (best .keys) i 0 h)
+  pub page-bay : (mark : Mark) (k j : ℕ) → List·Memᴰ j (page v distance badge mark k) → BaySlot v j
+  unfolding page
+  page-bay mark k j m =
+      whole-bay j
+      (only-out (afterMark v distance mark) j (wholeList v distance badge) (take-out k (only (afterMark v distance mark) (wholeList v distance badge)) j m) .0)

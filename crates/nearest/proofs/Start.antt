@@ -7,10 +7,9 @@ use borrow.Author.Tests.{lt-leb}
 use Rattle.floor.specs.View.{View, Shaped}
 use Rattle.rules.specs.Verdicts.{Keeps}
 use Rattle.order.specs.Order.{Sorted}
+use Rattle.tree.specs.Below.{nodeBays}
+use Rattle.question.specs.declared.Question.{Question}
 use Rattle.nearest.specs.declared.best.Best.{Best}
-use Rattle.nearest.specs.declared.question.Question.{Question}
-use Rattle.nearest.specs.Shown.{distanceTo}
-use Rattle.nearest.specs.Below.{nodeBays}
 use Rattle.nearest.specs.Best.{slotIn, noBays, Slots, Carried}
 use Rattle.nearest.specs.Searched.{Searched, Found}
 use Rattle.nearest.proofs.Page.{page-below}
@@ -33,8 +32,8 @@ no-bays-carried v k shaped low high =
       worst = rw (lt-leb k 0 (omega arith));
     }
 
-pub root-found : (v : View) (q : Question) (root top : ℕ) (b r : Best) → Keeps v → root ≡ v .root → top ≡ v .level root → b ≡ noBays
-    → Searched v q (nodeBays v (distanceTo v (q .from)) top root) b r → Found v q r
-root-found v q root top b r keeps er et eb s =
-    let below : Searched v q (nodeBays v (distanceTo v (q .from)) (v .level (v .root)) (v .root)) noBays r = rw (eb, et, er) at s in
-    record { carried = below .carried; is = below .is ∙ sym (page-below v keeps (distanceTo v (q .from)) q) }
+pub root-found : (v : View) (distance : ℕ → ℕ) (q : Question) (root top : ℕ) (b r : Best) → Keeps v → root ≡ v .root → top ≡ v .level root → b ≡ noBays
+    → Searched v distance q (nodeBays v top root) b r → Found v distance q r
+root-found v distance q root top b r keeps er et eb s =
+    let below : Searched v distance q (nodeBays v (v .level (v .root)) (v .root)) noBays r = rw (eb, et, er) at s in
+    record { carried = below .carried; is = below .is ∙ sym (page-below v keeps distance q) }

@@ -12,14 +12,12 @@ use Rattle.numbers.proofs.Tests.{both}
 use Rattle.floor.specs.View.{View, filled}
 use Rattle.order.specs.Order.{place}
 use Rattle.order.proofs.Place.{by-test}
+use Rattle.tree.specs.Below.{slotBays, partBays}
+use Rattle.question.specs.declared.Question.{Question}
 use Rattle.nearest.specs.declared.best.Best.{Best}
-use Rattle.nearest.specs.declared.question.Question.{Question}
-use Rattle.nearest.specs.Shown.{nearBay}
-use Rattle.nearest.specs.Below.{slotBays, partBays}
 use Rattle.nearest.specs.Asked.{wantedBy}
-use Rattle.nearest.specs.Best.{keyOf, bayOf, sooner, Slots, listing, Carried}
+use Rattle.nearest.specs.Best.{keyOf, sooner, Slots, listing, Carried}
 use Rattle.nearest.specs.Searched.{Searched, takenOf}
-use Rattle.nearest.proofs.Keys.{bay-back}
 use Rattle.nearest.proofs.Offer.{Offered, with-room, when-full, left-out}
 use Rattle.nearest.proofs.Searching.{searched-none, searched-unwanted, searched-one}
 
@@ -27,18 +25,18 @@ module _ (v : View) (distance : ℕ → ℕ) (q : Question) (j len last : ℕ) w
   pub takes-none : filled v j ≡ false → false ≡ takenOf v distance q j len last
   takes-none f = rw f
 
-  pub takes-unwanted : filled v j ≡ true → wantedBy q (nearBay v distance j) ≡ false → false ≡ takenOf v distance q j len last
+  pub takes-unwanted : filled v j ≡ true → wantedBy v distance q j ≡ false → false ≡ takenOf v distance q j len last
   takes-unwanted f w = rw (f, w)
 
-  pub takes-room : filled v j ≡ true → wantedBy q (nearBay v distance j) ≡ true → len < q .k → true ≡ takenOf v distance q j len last
+  pub takes-room : filled v j ≡ true → wantedBy v distance q j ≡ true → len < q .k → true ≡ takenOf v distance q j len last
   takes-room f w h = rw (f, w, lt-ltb len (q .k) h)
 
-  pub takes-before : {r : Bool} → filled v j ≡ true → wantedBy q (nearBay v distance j) ≡ true → q .k ≤ len → r ≡ sooner v (keyOf distance j) last
+  pub takes-before : {r : Bool} → filled v j ≡ true → wantedBy v distance q j ≡ true → q .k ≤ len → r ≡ sooner v (keyOf distance j) last
       → r ≡ takenOf v distance q j len last
   takes-before f w h e = rw (f, w, le-ltb len (q .k) h) e
 
 -- slot i of a leaf
-module _ (v : View) (distance : ℕ → ℕ) (q : Question) (node i : ℕ) (low : 8 * node + i < 2048) (keys : List ℕ) (len : ℕ)
+module _ (v : View) (distance : ℕ → ℕ) (q : Question) (node i : ℕ) (keys : List ℕ) (len : ℕ)
     (c : Carried v (q .k) (listing (q .k) keys len)) where
   abbrev j : ℕ
   j = 8 * node + i
@@ -49,24 +47,22 @@ module _ (v : View) (distance : ℕ → ℕ) (q : Question) (node i : ℕ) (low 
   abbrev last : ℕ
   last = getD keys (q .k - 1) 0
 
-  none-here : filled v j ≡ false → Searched v q (partBays v distance 0 node i) b b
-  none-here f = rw f (searched-none v q b c)
+  none-here : filled v j ≡ false → Searched v distance q (partBays v 0 node i) b b
+  none-here f = rw f (searched-none v distance q b c)
 
-  unwanted-here : filled v j ≡ true → wantedBy q (nearBay v distance j) ≡ false → Searched v q (partBays v distance 0 node i) b b
+  unwanted-here : filled v j ≡ true → wantedBy v distance q j ≡ false → Searched v distance q (partBays v 0 node i) b b
   unfolding slotBays
-  unwanted-here f w = rw f (searched-unwanted v q b (nearBay v distance j) w c)
+  unwanted-here f w = rw f (searched-unwanted v distance q b j w c)
 
-  wanted-here : (r : Best) → filled v j ≡ true → wantedBy q (nearBay v distance j) ≡ true → Offered v (q .k) b (keyOf distance j) r
-      → Searched v q (partBays v distance 0 node i) b r
+  wanted-here : (r : Best) → filled v j ≡ true → wantedBy v distance q j ≡ true → Offered v (q .k) b (keyOf distance j) r
+      → Searched v distance q (partBays v 0 node i) b r
   unfolding slotBays
-  wanted-here r f w o =
-      let is = bay-back v distance j low in
-      rw f (rw is at (searched-one v q b (keyOf distance j) r (ap (wantedBy q) is ∙ w) o))
+  wanted-here r f w o = rw f (searched-one v distance q b j r w o)
 
-  pub slot-left : takenOf v distance q j len last ≡ false → Searched v q (partBays v distance 0 node i) b b
+  pub slot-left : takenOf v distance q j len last ≡ false → Searched v distance q (partBays v 0 node i) b b
   slot-left t =
       by-test (filled v j)
-      (λ f. by-test (wantedBy q (nearBay v distance j))
+      (λ f. by-test (wantedBy v distance q j)
       (λ w. by-test (ltb len (q .k))
       (λ h. absurd (true≢false (takes-room v distance q j len last f w (ltb-true len (q .k) h) ∙ t)))
       (λ h. let full = ltb-false len (q .k) h in
@@ -78,19 +74,19 @@ module _ (v : View) (distance : ℕ → ℕ) (q : Question) (node i : ℕ) (low 
   pub slot-taken : (t : List ℕ) (up : ℕ) → takenOf v distance q j len last ≡ true → length t ≡ 100 → Slots v t
       → ((len < q .k) × (up ≡ len + 1)) ⊎ ((q .k ≤ len) × (up ≡ len))
       → take (suc (up - 1)) t ≡ place (sooner v) (keyOf distance j) (take (up - 1) keys)
-      → Searched v q (partBays v distance 0 node i) b (listing (q .k) t up)
+      → Searched v distance q (partBays v 0 node i) b (listing (q .k) t up)
   slot-taken t up h long slots w e = go w
     where
       new : ℕ
       new = keyOf distance j
 
-      parts : (filled v j ≡ true) × ((wantedBy q (nearBay v distance j) && (ltb len (q .k) || sooner v new last)) ≡ true)
-      parts = both (filled v j) (wantedBy q (nearBay v distance j) && (ltb len (q .k) || sooner v new last)) h
+      parts : (filled v j ≡ true) × ((wantedBy v distance q j && (ltb len (q .k) || sooner v new last)) ≡ true)
+      parts = both (filled v j) (wantedBy v distance q j && (ltb len (q .k) || sooner v new last)) h
 
-      more : (wantedBy q (nearBay v distance j) ≡ true) × ((ltb len (q .k) || sooner v new last) ≡ true)
-      more = both (wantedBy q (nearBay v distance j)) (ltb len (q .k) || sooner v new last) (parts .1)
+      more : (wantedBy v distance q j ≡ true) × ((ltb len (q .k) || sooner v new last) ≡ true)
+      more = both (wantedBy v distance q j) (ltb len (q .k) || sooner v new last) (parts .1)
 
-      go : ((len < q .k) × (up ≡ len + 1)) ⊎ ((q .k ≤ len) × (up ≡ len)) → Searched v q (partBays v distance 0 node i) b (listing (q .k) t up)
+      go : ((len < q .k) × (up ≡ len + 1)) ⊎ ((q .k ≤ len) × (up ≡ len)) → Searched v distance q (partBays v 0 node i) b (listing (q .k) t up)
       go (inl g) =
           let n : up - 1 ≡ len = omega (arith, g .1) in
           wanted-here (listing (q .k) t up) (parts .0) (more .0) (rw (g .1) (with-room v (q .k) keys len new c t (g .0) long slots (rw n at e)))

@@ -1,8 +1,9 @@
--- What a question wants: bays of its badge's zones, strictly after its mark.
+-- What a question wants: bays that its badge is shown, strictly after its mark.
 use mathlib.Core.Bool.{Bool, _&&_}
-use Rattle.nearest.specs.declared.near_bay.NearBay.{NearBay}
-use Rattle.nearest.specs.declared.question.Question.{Question}
-use Rattle.nearest.specs.Shown.{shown, afterMark}
+use Prim.Native.Nat.{ℕ}
+use Rattle.floor.specs.View.{View}
+use Rattle.question.specs.declared.Question.{Question}
+use Rattle.nearest.specs.Shown.{shownAt, afterMark}
 
-abbrev pub wantedBy : Question → NearBay → Bool
-wantedBy q e = shown (q .badge .0) e && afterMark (q .mark .dsq .0) (q .mark .bay) e
+abbrev pub wantedBy : View → (ℕ → ℕ) → Question → ℕ → Bool
+wantedBy v distance q j = shownAt v (q .badge .0) j && afterMark v distance (q .mark) j

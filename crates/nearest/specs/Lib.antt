@@ -1,9 +1,7 @@
--- The badge, the order of bays, and what a badge is shown.
-pub mod Badge
+-- What a badge is shown, the page, the best list, and what a search makes of it.
 pub mod Shown
-pub mod Below
+pub mod Asked
+pub mod Reach
 pub mod Best
 pub mod Ground
-pub mod Asked
 pub mod Searched
-pub mod Reach

@@ -5,10 +5,10 @@ use mathlib.Core.List.{List}
 use Prim.Native.Nat.{ℕ, _+_, _*_, _<_}
 use lib.Dec.{leb, ltb}
 use lib.ListN.{length, getD}
-use Rattle.measure.specs.declared.SquaredMm.{SquaredMm}
+use Rattle.measure.specs.declared.HowFar.{HowFar}
 use Rattle.floor.specs.View.{View, filled}
 
-abbrev pub none : SquaredMm
+abbrev pub none : HowFar
 none = record { 0 = 0 }
 
 -- farther than any slot: what stands for one that is empty
@@ -19,7 +19,7 @@ unfoldable pub gapOf : View → (ℕ → ℕ) → ℕ → ℕ
 gapOf v distance j = cond (filled v j) (distance j) beyond
 
 -- ds has the distances of a node's slots
-pub record Reach (v : View) (distance : ℕ → ℕ) (node : ℕ) (ds : List SquaredMm) : Type 0 where
+pub record Reach (v : View) (distance : ℕ → ℕ) (node : ℕ) (ds : List HowFar) : Type 0 where
   pub long : length ds ≡ 8
   pub is : (i : ℕ) → i < 8 → getD ds i none .0 ≡ gapOf v distance (8 * node + i)
 

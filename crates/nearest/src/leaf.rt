@@ -3,38 +3,43 @@ ghost use mathlib.Core.Path.{_≡_};
 ghost use mathlib.Core.Bool.{true};
 ghost use Prim.Native.Nat.{_*_, _<_};
 ghost use Rattle.floor.specs.View.{viewOf, filled};
-ghost use Rattle.nearest.specs.Shown.{nearBay, distanceTo};
-ghost use Rattle.nearest.specs.Below.{nodeBays};
+ghost use Rattle.tree.specs.Below.{nodeBays};
+ghost use Rattle.nearest.specs.Shown.{distanceTo};
 ghost use Rattle.nearest.specs.Best.{slotIn, listing, Carried};
 ghost use Rattle.nearest.specs.Ground.{Ground};
 ghost use Rattle.nearest.specs.Asked.{wantedBy};
 ghost use Rattle.nearest.specs.Searched.{Searched, takenOf};
 use crate::best::sink;
+use crate::key::Key;
 use crate::key::is_sooner;
 use crate::key::key_at;
-use crate::near_bay::is_before;
-use crate::question::Question;
+use crate::slots::far_to;
 use floor::is_filled;
 use floor::slot_of;
-use measure::squared_gap;
+use question::Mark;
+use question::Question;
 
 // Whether the question wants the bay in a filled slot. A bay that is hidden from the badge is not measured.
 fn wants(map: &[u8], q: Question, j: usize) -> bool
     requires { ⌜ Ground (viewOf (now map)) (q .from) × (j < 8 * viewOf (now map) .count) × (filled (viewOf (now map)) j ≡ true) ⌝ }
-    ensures { λ r. ⌜ r ≡ wantedBy q (nearBay (viewOf (now (map .entry))) (distanceTo (viewOf (now (map .entry))) (q .from)) j) ⌝ }
+    ensures { λ r. ⌜ r ≡ wantedBy (viewOf (now (map .entry))) (distanceTo (viewOf (now (map .entry))) (q .from)) q j ⌝ }
 {
     let slot = slot_of(map, j);
     if q.badge.contains(slot.zone) {
-        let dsq = squared_gap(q.from, slot.bounds);
-        return is_before(q.mark.dsq, q.mark.bay, dsq, slot.reference);
+        let far = far_to(q.from, slot.bounds);
+        let here = Mark {
+            far,
+            bay: slot.reference,
+        };
+        return q.mark.is_before(here);
     }
     false
 }
 
 // Whether the bay in a slot goes into a list of len bays, of which the kth, if there is one, is last.
-fn takes(map: &[u8], q: Question, j: usize, len: usize, last: u64) -> bool
-    requires { ⌜ Ground (viewOf (now map)) (q .from) × (j < 8 * viewOf (now map) .count) × (slotIn last < 8 * viewOf (now map) .count) ⌝ }
-    ensures { λ r. ⌜ r ≡ takenOf (viewOf (now (map .entry))) (distanceTo (viewOf (now (map .entry))) (q .from)) q j len last ⌝ }
+fn takes(map: &[u8], q: Question, j: usize, len: usize, last: Key) -> bool
+    requires { ⌜ Ground (viewOf (now map)) (q .from) × (j < 8 * viewOf (now map) .count) × (slotIn (last .0) < 8 * viewOf (now map) .count) ⌝ }
+    ensures { λ r. ⌜ r ≡ takenOf (viewOf (now (map .entry))) (distanceTo (viewOf (now (map .entry))) (q .from)) q j len (last .0) ⌝ }
 {
     if is_filled(map, j) {
         if wants(map, q, j) {
@@ -51,14 +56,15 @@ fn takes(map: &[u8], q: Question, j: usize, len: usize, last: u64) -> bool
 // Takes the slots of a leaf into a list of len bays, and answers how many it has then.
 pub fn leaf(map: &[u8], q: Question, node: usize, len: usize, keys: &mut [u64; 100]) -> usize
     requires { ⌜ Ground (viewOf (now map)) (q .from) × (node < viewOf (now map) .count) × Carried (viewOf (now map)) (q .k) (listing (q .k) (now keys) len) ⌝ }
-    ensures { λ r. ⌜ Searched (viewOf (now (map .entry))) q (nodeBays (viewOf (now (map .entry))) (distanceTo (viewOf (now (map .entry))) (q .from)) 0 node) (listing (q .k) (now (keys .entry)) len) (listing (q .k) (now (keys .exit)) r) ⌝ }
+    ensures { λ r. ⌜ Searched (viewOf (now (map .entry))) (distanceTo (viewOf (now (map .entry))) (q .from)) q (nodeBays (viewOf (now (map .entry))) 0 node) (listing (q .k) (now (keys .entry)) len) (listing (q .k) (now (keys .exit)) r) ⌝ }
 {
     let k = q.k;
     let mut up = len;
     let mut i: usize = 0;
     while i < 8 {
         let j = 8 * node + i;
-        if takes(map, q, j, up, keys[k - 1]) {
+        let last = keys[k - 1];
+        if takes(map, q, j, up, Key(last)) {
             if up < k {
                 up += 1;
             }

@@ -6,31 +6,31 @@ ghost use Rattle.floor.specs.View.{viewOf};
 ghost use Rattle.nearest.specs.Shown.{distanceTo};
 ghost use Rattle.nearest.specs.Ground.{Ground};
 ghost use Rattle.nearest.specs.Reach.{none, gapOf, Reach, opened};
-use crate::slots::gap_to;
+use crate::slots::how_far;
 use floor::is_filled;
+use measure::HowFar;
 use measure::Point;
-use measure::SquaredMm;
 
-// Farther than any slot: the squared distance of no box.
+// Farther than any slot: how far no box is.
 pub const BEYOND: u64 = 18446744073709551615;
 
 // How far a slot is, if it is filled.
-pub fn gap(map: &[u8], p: Point, j: usize) -> SquaredMm
+pub fn gap(map: &[u8], p: Point, j: usize) -> HowFar
     requires { ⌜ Ground (viewOf (now map)) p × (j < 8 * viewOf (now map) .count) ⌝ }
     ensures { λ r. ⌜ r .0 ≡ gapOf (viewOf (now (map .entry))) (distanceTo (viewOf (now (map .entry))) p) j ⌝ }
 {
     if is_filled(map, j) {
-        return gap_to(map, p, j);
+        return how_far(map, p, j);
     }
-    SquaredMm(BEYOND)
+    HowFar(BEYOND)
 }
 
 // How far each slot of a node is.
-pub fn gaps(map: &[u8], p: Point, node: usize) -> [SquaredMm; 8]
+pub fn gaps(map: &[u8], p: Point, node: usize) -> [HowFar; 8]
     requires { ⌜ Ground (viewOf (now map)) p × (node < viewOf (now map) .count) ⌝ }
     ensures { λ r. ⌜ Reach (viewOf (now (map .entry))) (distanceTo (viewOf (now (map .entry))) p) node r ⌝ }
 {
-    let mut ds = [SquaredMm(0); 8];
+    let mut ds = [HowFar(0); 8];
     let mut i: usize = 0;
     while i < 8 {
         ds[i] = gap(map, p, 8 * node + i);
@@ -40,7 +40,7 @@ pub fn gaps(map: &[u8], p: Point, node: usize) -> [SquaredMm; 8]
 }
 
 // The slot that is nearest.
-pub fn least(ds: [SquaredMm; 8]) -> usize
+pub fn least(ds: [HowFar; 8]) -> usize
     ensures { λ r. ⌜ (r < 8) × ((i : ℕ) → i < 8 → getD ds r none .0 ≤ getD ds i none .0) ⌝ }
 {
     let mut at: usize = 0;
@@ -56,7 +56,7 @@ pub fn least(ds: [SquaredMm; 8]) -> usize
 
 // Whether to go into a slot at the distance d, with the kth bay at the distance worst: a slot as far as the kth may hold
 // a bay that is as near, with a smaller number.
-pub fn opens(d: SquaredMm, worst: SquaredMm) -> bool
+pub fn opens(d: HowFar, worst: HowFar) -> bool
     ensures { λ r. ⌜ r ≡ opened (d .0) (worst .0) ⌝ }
 {
     (d.0 < BEYOND) & (d.0 <= worst.0)

@@ -2,16 +2,16 @@
 ghost use mathlib.Core.Path.{_≡_};
 ghost use Prim.Native.Nat.{_<_, _≤_};
 ghost use Rattle.floor.specs.View.{viewOf};
+ghost use Rattle.tree.specs.Below.{nodeBays};
 ghost use Rattle.nearest.specs.Shown.{distanceTo};
-ghost use Rattle.nearest.specs.Below.{nodeBays};
 ghost use Rattle.nearest.specs.Best.{noBays, Carried};
 ghost use Rattle.nearest.specs.Ground.{Ground};
 ghost use Rattle.nearest.specs.Searched.{Searched, Found};
 use crate::best::Best;
 use crate::best::no_bays;
 use crate::best::worst_of;
+use crate::key::Key;
 use crate::leaf::leaf;
-use crate::question::Question;
 use crate::reach::BEYOND;
 use crate::reach::gaps;
 use crate::reach::least;
@@ -19,12 +19,13 @@ use crate::reach::opens;
 use floor::level_of;
 use floor::ref_of;
 use floor::root_of;
-use measure::SquaredMm;
+use measure::HowFar;
+use question::Question;
 
 // The best list after all that is below a node above the leaves.
 pub fn search(map: &[u8], q: Question, node: usize, level: u8, best: Best) -> Best
     requires { ⌜ Ground (viewOf (now map)) (q .from) × (node < viewOf (now map) .count) × (viewOf (now map) .level node ≡ level) × (0 < level) × Carried (viewOf (now map)) (q .k) best ⌝ }
-    ensures { λ r. ⌜ Searched (viewOf (now (map .entry))) q (nodeBays (viewOf (now (map .entry))) (distanceTo (viewOf (now (map .entry))) (q .from)) level node) best r ⌝ }
+    ensures { λ r. ⌜ Searched (viewOf (now (map .entry))) (distanceTo (viewOf (now (map .entry))) (q .from)) q (nodeBays (viewOf (now (map .entry))) level node) best r ⌝ }
 {
     let mut b = best;
     let mut ds = gaps(map, q.from, node);
@@ -35,12 +36,13 @@ pub fn search(map: &[u8], q: Question, node: usize, level: u8, best: Best) -> Be
             let len = b.len;
             let up = leaf(map, q, child, len, &mut b.keys);
             b.len = up;
-            let worst = worst_of(q.k, up, b.keys[q.k - 1]);
+            let last = b.keys[q.k - 1];
+            let worst = worst_of(q.k, up, Key(last));
             b.worst = worst;
         } else {
             b = search(map, q, child, level - 1, b);
         }
-        ds[j] = SquaredMm(BEYOND);
+        ds[j] = HowFar(BEYOND);
         j = least(ds);
     }
     b
@@ -49,12 +51,13 @@ pub fn search(map: &[u8], q: Question, node: usize, level: u8, best: Best) -> Be
 // The best list of a map that is one leaf. A function for this and for a leaf below `search` would copy the list.
 fn one_leaf(map: &[u8], q: Question, root: usize) -> Best
     requires { ⌜ Ground (viewOf (now map)) (q .from) × (root < viewOf (now map) .count) × (1 ≤ q .k) × (q .k ≤ 100) ⌝ }
-    ensures { λ r. ⌜ Searched (viewOf (now (map .entry))) q (nodeBays (viewOf (now (map .entry))) (distanceTo (viewOf (now (map .entry))) (q .from)) 0 root) noBays r ⌝ }
+    ensures { λ r. ⌜ Searched (viewOf (now (map .entry))) (distanceTo (viewOf (now (map .entry))) (q .from)) q (nodeBays (viewOf (now (map .entry))) 0 root) noBays r ⌝ }
 {
     let mut b = no_bays();
     let up = leaf(map, q, root, 0, &mut b.keys);
     b.len = up;
-    let worst = worst_of(q.k, up, b.keys[q.k - 1]);
+    let last = b.keys[q.k - 1];
+    let worst = worst_of(q.k, up, Key(last));
     b.worst = worst;
     b
 }
@@ -62,7 +65,7 @@ fn one_leaf(map: &[u8], q: Question, root: usize) -> Best
 // The page that a question asks for.
 pub fn nearest(map: &[u8], q: Question) -> Best
     requires { ⌜ Ground (viewOf (now map)) (q .from) × (1 ≤ q .k) × (q .k ≤ 100) ⌝ }
-    ensures { λ r. ⌜ Found (viewOf (now (map .entry))) q r ⌝ }
+    ensures { λ r. ⌜ Found (viewOf (now (map .entry))) (distanceTo (viewOf (now (map .entry))) (q .from)) q r ⌝ }
 {
     let root = root_of(map);
     let top = level_of(map, root);

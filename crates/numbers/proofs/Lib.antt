@@ -10,3 +10,4 @@ pub mod Exactly
 pub mod Counting
 pub mod Bits
 pub mod Arrays
+pub mod Tried

@@ -8,5 +8,7 @@ pub mod Sorting
 pub mod After
 pub mod Swap
 pub mod Visits
+pub mod Turns
 pub mod Hole
 pub mod Mapped
+pub mod Ranked

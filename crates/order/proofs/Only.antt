@@ -5,7 +5,7 @@ use native.Mathlib.Numerals.{add-one}
 use native.Mathlib.Omega.{arith}
 use mathlib.Core.Path.{_≡_, refl, sym, ap, _∙_}
 use mathlib.Core.Logic.{⊎-elim}
-use mathlib.Core.Bool.{Bool, true, false, _&&_, true≢false}
+use mathlib.Core.Bool.{Bool, true, false, cond, _&&_, true≢false}
 use mathlib.Core.List.{List, [], _∷_, _++_, List·Memᴰ, List·Memᴰ·head, List·Memᴰ·tail, List·Memᴰ·not-nil, List·Memᴰ·cases-cons, List·Memᴰ·append-cases}
 use Rattle.order.specs.Order.{only, gather}
 use Rattle.order.proofs.Place.{by-test}
@@ -61,6 +61,11 @@ only-both p r (x ∷ xs) =
     (λ e. rw e (by-test (r x) (λ g. rw g (ap (_∷_ x) (only-both p r xs))) (λ g. rw g (only-both p r xs))))
     (λ e. rw e (only-both p r xs))
 
+-- what a choice between a list and nothing holds, the list holds, and the test passes
+pub chosen-out : {A : Type 0} (t : Bool) (l : List A) (x : A) → List·Memᴰ x (cond t l []) → (t ≡ true) × List·Memᴰ x l
+chosen-out true l x m = (refl, m)
+chosen-out false l x m = absurd (List·Memᴰ·not-nil m)
+
 module _ {A : Type 0} where
   pub gather-more : (f : ℕ → List A) (n : ℕ) → gather f (n + 1) ≡ gather f n ++ f n
   unfolding gather
@@ -79,3 +84,10 @@ module _ {A : Type 0} where
   gather-each P f zero h x m = absurd (List·Memᴰ·not-nil m)
   gather-each P f (suc n) h x m =
       ⊎-elim (gather-each P f n (λ i p. h i (omega arith)) x) (h n (omega arith) x) (List·Memᴰ·append-cases (gather f n) m)
+
+-- what goes through a joined list part by part
+pub gather-through : {A B : Type 0} (g : List A → List B) → g [] ≡ [] → ((xs ys : List A) → g (xs ++ ys) ≡ g xs ++ g ys)
+    → (f : ℕ → List A) (n : ℕ) → g (gather f n) ≡ gather (λ i. g (f i)) n
+unfolding gather
+gather-through g nil app f zero = nil
+gather-through g nil app f (suc n) = app (gather f n) (f n) ∙ ap (λ l. l ++ g (f n)) (gather-through g nil app f n)

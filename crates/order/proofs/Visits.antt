@@ -1,5 +1,5 @@
--- Parts that are taken in one after another, in any turn: one more part, and the parts that are left. First over any way
--- of taking in a list on which the turn does not show, then for what is kept. Assumes nothing.
+-- Parts that are taken in one after another, in any turn: one more part, and the parts that are left. Over any way
+-- of taking in a list on which the turn does not show. Assumes nothing.
 use Prim.Native.Nat.{ℕ, zero, suc, _≤_, _<_}
 use native.Mathlib.Nat.{not-suc-le-zero, eq-or-lt-of-le, le-of-suc-le-suc}
 use native.Mathlib.Omega.{arith}
@@ -8,11 +8,8 @@ use mathlib.Core.Logic.{⊎-elim}
 use mathlib.Core.Bool.{Bool, true, false, cond}
 use mathlib.Core.List.{List, [], _++_}
 use Rattle.numbers.proofs.Tests.{chosen}
-use Rattle.order.specs.Order.{Order, keepAll, Cross, only, gather}
+use Rattle.order.specs.Order.{gather}
 use Rattle.order.proofs.Place.{by-test}
-use Rattle.order.proofs.Only.{only-nil, only-out, only-append}
-use Rattle.order.proofs.Kept.{keep-append}
-use Rattle.order.proofs.Swap.{keep-swap}
 
 module _ {A : Type 0} where
   -- part i, if it has been taken in: if its test, which says that it is still open, fails
@@ -87,18 +84,3 @@ module _ {A B : Type 0} (run : List A → B → B)
         before p ih =
             rw (c n (omega arith) (λ q. omega arith), ih)
             (sym (chosen (Free j) (t n) (free-nil j) (free-part n j (omega arith) (omega arith) (λ q. omega arith)) (run (gather (taken t s) n) l)))
-
--- what is kept of those that pass a test
-module _ {A : Type 0} (lt : A → A → Bool) (o : Order lt) (k : ℕ) (p : A → Bool) where
-  abbrev pub kept : List A → List A → List A
-  kept es l = keepAll lt k (only p es) l
-
-  pub kept-nil : (l : List A) → kept [] l ≡ l
-  unfolding keepAll
-  kept-nil l = rw (only-nil p)
-
-  pub kept-append : (es fs l : List A) → kept (es ++ fs) l ≡ kept fs (kept es l)
-  kept-append es fs l = rw (only-append p es fs) (keep-append lt k (only p es) (only p fs) l)
-
-  pub kept-swap : (es fs l : List A) → Cross lt es fs → kept es (kept fs l) ≡ kept fs (kept es l)
-  kept-swap es fs l h = sym (keep-swap lt o k (only p es) (only p fs) l (λ x y m n. h x y (only-out p x es m .0) (only-out p y fs n .0)))

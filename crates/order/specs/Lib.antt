@@ -1,3 +1,4 @@
--- The words for lists under a strict order: definitions, in one file.
+-- The words for lists under a strict order, and orders made of numbers.
 -- Assumes nothing.
 pub mod Order
+pub mod Ranked

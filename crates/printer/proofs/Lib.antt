@@ -1,5 +1,4 @@
--- The laws of what is written, read and printed.
+-- The laws of what is written and printed.
 pub mod Writing
-pub mod Reading
 pub mod Theorems
 pub mod Lines

@@ -5,7 +5,8 @@ use Prim.Native.Nat.{ℕ, zero, suc, _*_}
 use lib.Dec.{leb}
 use lib.ListN.{length}
 use Rattle.decimal.specs.Decimal.{decimal}
-use Rattle.nearest.specs.declared.near_bay.NearBay.{NearBay}
+use Rattle.measure.specs.declared.HowFar.{HowFar}
+use Rattle.record.specs.declared.Record.{Record}
 
 -- `answer=`
 abbrev pub answerKey : List ℕ
@@ -51,18 +52,18 @@ fieldOf key n = key ++ decimal n
 abbrev pub headLine : List ℕ → ℕ → List ℕ
 headLine key n = fieldOf key n ++ newline
 
--- the line of a bay's number, zone, squared distance and plain distance
-unfoldable pub lineOf : ℕ → ℕ → ℕ → ℕ → List ℕ
-lineOf bay zone dsq mm =
-    fieldOf bayKey bay ++ (fieldOf zoneKey zone ++ (fieldOf dsqKey dsq ++ (fieldOf mmKey mm ++ newline)))
+-- how far a bay is: its squared distance and its plain distance
+abbrev pub farFields : HowFar → List ℕ
+farFields far = fieldOf dsqKey (far .0) ++ fieldOf mmKey (rootOf (far .0))
 
-abbrev pub recordLine : NearBay → List ℕ
-recordLine e = lineOf (e .bay) (e .zone) (e .dsq .0) (rootOf (e .dsq .0))
+-- the line of a bay: its number, its zone, and how far it is
+unfoldable pub recordLine : Record → List ℕ
+recordLine r = fieldOf bayKey (r .bay) ++ fieldOf zoneKey (r .zone) ++ farFields (r .far) ++ newline
 
-unfoldable pub linesOf : List NearBay → List ℕ
-linesOf [] = []
-linesOf (e ∷ es) = recordLine e ++ linesOf es
+unfoldable pub recordLines : List Record → List ℕ
+recordLines [] = []
+recordLines (r ∷ rs) = recordLine r ++ recordLines rs
 
 -- the whole output: the answer's number, how many bays were found, and a line for each
-unfoldable pub printed : ℕ → List NearBay → List ℕ
-printed number es = headLine answerKey number ++ (headLine foundKey (length es) ++ linesOf es)
+unfoldable pub printed : ℕ → List Record → List ℕ
+printed number rs = headLine answerKey number ++ headLine foundKey (length rs) ++ recordLines rs

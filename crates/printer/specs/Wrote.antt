@@ -1,7 +1,7 @@
--- Bytes written into a buffer at a place, and how many are kept for a line.
+-- Bytes written into a buffer at a place, and the room that is kept for them.
 use mathlib.Core.Path.{_≡_}
 use mathlib.Core.List.{List, _++_}
-use Prim.Native.Nat.{ℕ, _+_, _≤_}
+use Prim.Native.Nat.{ℕ, _+_, _*_, _≤_}
 use lib.ListN.{length, take, drop}
 
 -- after is before with w from at up to to, and nothing else changed
@@ -10,6 +10,24 @@ pub record Wrote (before after w : List ℕ) (at to : ℕ) : Type 0 where
   pub end : to ≡ at + length w
   pub room : to ≤ length before
 
--- the room that is kept for the line of a bay, which is more than the longest takes
+-- the same, in the room that was kept for it
+pub record WroteIn (room : ℕ) (before after w : List ℕ) (at to : ℕ) : Type 0 where
+  pub wrote : Wrote before after w at to
+  pub short : to ≤ at + room
+
+-- the room for a key; for a field, whose number has twenty digits at most; and for a line of one field
+abbrev pub keyRoom : ℕ
+keyRoom = 7
+
+abbrev pub fieldRoom : ℕ
+fieldRoom = keyRoom + 20
+
+abbrev pub headRoom : ℕ
+headRoom = fieldRoom + 1
+
+-- the room for how far a bay is, and for its whole line: more than the longest takes
+abbrev pub farRoom : ℕ
+farRoom = 2 * fieldRoom
+
 abbrev pub lineRoom : ℕ
-lineRoom = 80
+lineRoom = 192

@@ -5,7 +5,7 @@ ghost use Prim.Native.Nat.{_+_, _≤_, _<_};
 ghost use lib.ListN.{length};
 ghost use Rattle.decimal.specs.Decimal.{decimal};
 ghost use Rattle.printer.specs.Printed.{fieldOf};
-ghost use Rattle.printer.specs.Wrote.{Wrote};
+ghost use Rattle.printer.specs.Wrote.{Wrote, WroteIn, keyRoom, fieldRoom};
 
 pub fn put_byte(out: &mut [u8], at: usize, b: u8) -> usize
     requires { ⌜ at < length (now out) ⌝ }
@@ -41,8 +41,8 @@ pub fn put_bytes(out: &mut [u8], at: usize, bytes: &[u8]) -> usize
 
 // A key and a number.
 pub fn put_field(out: &mut [u8], at: usize, key: &[u8], n: u64) -> usize
-    requires { ⌜ at + length (fieldOf (now key) n) ≤ length (now out) ⌝ }
-    ensures { λ r. ⌜ Wrote (now (out .entry)) (now (out .exit)) (fieldOf (now (key .entry)) n) at r ⌝ }
+    requires { ⌜ (length (now key) ≤ keyRoom) × (at + fieldRoom ≤ length (now out)) ⌝ }
+    ensures { λ r. ⌜ WroteIn fieldRoom (now (out .entry)) (now (out .exit)) (fieldOf (now (key .entry)) n) at r ⌝ }
 {
     let number = put_bytes(out, at, key);
     put_decimal(out, number, n)

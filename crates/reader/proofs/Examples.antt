@@ -23,7 +23,7 @@ abbrev example : List ℕ
 example = 120 ∷ 61 ∷ 54 ∷ 10 ∷ behind
 
 pub example-read : questionIn example
-    ≡ Read (record { from = record { x = pos 6; y = pos 2 }; k = 3; badge = record { 0 = 8 }; mark = record { dsq = record { 0 = 0 }; bay = 0 } })
+    ≡ Read (record { from = record { x = pos 6; y = pos 2 }; k = 3; badge = record { 0 = 8 }; mark = record { far = record { 0 = 0 }; bay = 0 } })
 unfolding questionIn answerIn lineIn scan stepOf digitOf growOf
 example-read = refl
 

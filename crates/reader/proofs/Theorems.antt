@@ -13,7 +13,7 @@ use mir.Syntax.{w32}
 use mir.Val.{SFits}
 use Rattle.decimal.specs.Decimal.{decimal}
 use Rattle.decimal.proofs.Laws.{decimal-length, decimal-short}
-use Rattle.nearest.specs.declared.question.Question.{Question}
+use Rattle.question.specs.declared.Question.{Question}
 use Rattle.reader.specs.declared.Asked.{Asked}
 use Rattle.reader.specs.declared.Asked.the-variants.{Read, Bad}
 use Rattle.reader.specs.Question.{signed, line, questionText, Fitting, Asks, questionIn}
@@ -37,13 +37,13 @@ numbers-once p q e =
     let y : p .from .y ≡ q .from .y = whole-once (p .from .y) (q .from .y) (cc) in
     let k : p .k ≡ q .k = cc in
     let badge : p .badge .0 ≡ q .badge .0 = cc in
-    let dsq : p .mark .dsq .0 ≡ q .mark .dsq .0 = cc in
+    let dsq : p .mark .far .0 ≡ q .mark .far .0 = cc in
     let bay : p .mark .bay ≡ q .mark .bay = cc in
     let of : ℤ → ℤ → ℕ → ℕ → ℕ → ℕ → Question =
     λ x y k b d n.
-    record { from = record { x = x; y = y }; k = k; badge = record { 0 = b }; mark = record { dsq = record { 0 = d }; bay = n } } in
-    let z : of (p .from .x) (p .from .y) (p .k) (p .badge .0) (p .mark .dsq .0) (p .mark .bay)
-    ≡ of (q .from .x) (q .from .y) (q .k) (q .badge .0) (q .mark .dsq .0) (q .mark .bay) =
+    record { from = record { x = x; y = y }; k = k; badge = record { 0 = b }; mark = record { far = record { 0 = d }; bay = n } } in
+    let z : of (p .from .x) (p .from .y) (p .k) (p .badge .0) (p .mark .far .0) (p .mark .bay)
+    ≡ of (q .from .x) (q .from .y) (q .k) (q .badge .0) (q .mark .far .0) (q .mark .bay) =
     rw (x, y, k, badge, dsq, bay) in
     z
 
@@ -88,7 +88,7 @@ text-short q f =
     let y = signed-short (q .from .y) (f .y) in
     let k = ten-digits (q .k) (f .k) in
     let badge = ten-digits (q .badge .0) (f .badge) in
-    let dsq = decimal-short (q .mark .dsq .0) (f .dsq) in
+    let dsq = decimal-short (q .mark .far .0) (f .dsq) in
     let bay = ten-digits (q .mark .bay) (f .bay) in
     simp (length-append, line-length) (omega (arith, x, y, k, badge, dsq, bay))
 

@@ -6,7 +6,7 @@ use Prim.Native.Nat.{ℕ, _-_, _≤_}
 use lib.Dec.{eqb}
 use lib.IntN.{ℤ, pos, negsuc}
 use lib.ListN.{length, drop}
-use Rattle.nearest.specs.declared.question.Question.{Question}
+use Rattle.question.specs.declared.Question.{Question}
 use Rattle.reader.specs.declared.number.Number.{Number}
 use Rattle.reader.specs.declared.number.Number.the-variants.{Is, Wrong}
 use Rattle.reader.specs.declared.number.State.the-variants.{Empty}
@@ -88,5 +88,5 @@ questionOf x y k badge dsq bay =
       from = record { x = wholeOf x; y = wholeOf y };
       k = sizeOf k;
       badge = record { 0 = sizeOf badge };
-      mark = record { dsq = record { 0 = sizeOf dsq }; bay = sizeOf bay };
+      mark = record { far = record { 0 = sizeOf dsq }; bay = sizeOf bay };
     }

@@ -8,7 +8,7 @@ use lib.IntN.{ℤ, pos, negsuc}
 use mir.Syntax.{w32}
 use mir.Val.{SFits}
 use Rattle.decimal.specs.Decimal.{decimal}
-use Rattle.nearest.specs.declared.question.Question.{Question}
+use Rattle.question.specs.declared.Question.{Question}
 use Rattle.reader.specs.declared.Asked.{Asked}
 use Rattle.reader.specs.declared.Asked.the-variants.{Read, Bad}
 use Rattle.reader.specs.Scan.{Scan}
@@ -49,7 +49,7 @@ questionText q =
     ++ (line yKey (signed (q .from .y))
     ++ (line kKey (decimal (q .k))
     ++ (line badgeKey (decimal (q .badge .0))
-    ++ (line dsqKey (decimal (q .mark .dsq .0))
+    ++ (line dsqKey (decimal (q .mark .far .0))
     ++ line bayKey (decimal (q .mark .bay))))))
 
 -- every number of the question is one that may be written
@@ -58,7 +58,7 @@ pub record Fitting (q : Question) : Type 0 where
   pub y : SFits w32 (q .from .y)
   pub k : q .k < 2 ^ 32
   pub badge : q .badge .0 < 2 ^ 32
-  pub dsq : q .mark .dsq .0 < 2 ^ 64
+  pub dsq : q .mark .far .0 < 2 ^ 64
   pub bay : q .mark .bay < 2 ^ 32
 
 -- a text is read as a question exactly when it is that question's own text, and is bad when it is the text of none

@@ -3,7 +3,7 @@ use mathlib.Core.List.{List, [], _∷_}
 use mathlib.Core.Bool.{Bool, true, false, _&&_}
 use Prim.Native.Nat.{ℕ, suc}
 use lib.IntN.{ℤ, pos, negsuc}
-use Rattle.nearest.specs.declared.question.Question.{Question}
+use Rattle.question.specs.declared.Question.{Question}
 use Rattle.reader.specs.declared.number.Number.{Number}
 use Rattle.reader.specs.declared.number.Number.the-variants.{Is}
 use Rattle.reader.specs.Scan.{Scan, Within}
@@ -37,7 +37,7 @@ numbersOf q =
     ∷ numberOf (q .from .y)
     ∷ Is false (q .k)
     ∷ Is false (q .badge .0)
-    ∷ Is false (q .mark .dsq .0)
+    ∷ Is false (q .mark .far .0)
     ∷ Is false (q .mark .bay)
     ∷ []
 

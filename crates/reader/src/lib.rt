@@ -7,7 +7,7 @@ mod values;
 ghost use mathlib.Core.Path.{_≡_};
 ghost use Rattle.reader.specs.Question.{questionIn};
 use lines::line;
-use nearest::Question;
+use question::Question;
 use values::are_numbers;
 use values::question_of;
 

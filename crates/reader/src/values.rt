@@ -5,11 +5,11 @@ ghost use Rattle.reader.specs.Scan.{Within};
 ghost use Rattle.reader.specs.Line.{isNumber, allNumbers, wholeOf, sizeOf, i32Most, i32Least, u32Most, unsignedLeast, questionOf};
 ghost use Rattle.reader.specs.Table.{fields, Ranges};
 use crate::number::Number;
+use measure::HowFar;
 use measure::Point;
-use measure::SquaredMm;
-use nearest::Badge;
-use nearest::Mark;
-use nearest::Question;
+use question::Badge;
+use question::Mark;
+use question::Question;
 
 fn is_number(n: Number) -> bool
     ensures { λ r. ⌜ r ≡ isNumber n ⌝ }
@@ -79,10 +79,10 @@ pub fn question_of(
         y: whole(y),
     };
     let k = natural(k) as usize;
-    let badge = Badge(small(badge));
-    let dsq = SquaredMm(natural(dsq));
+    let badge = Badge::from_bits(small(badge));
+    let far = HowFar(natural(dsq));
     let mark = Mark {
-        dsq,
+        far,
         bay: small(bay),
     };
     Question {

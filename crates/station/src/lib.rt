@@ -9,12 +9,13 @@ ghost use Rattle.rules.specs.Verdicts.{numberOf, nodeOf, verdictOf};
 ghost use Rattle.ask.specs.Reply.{replyOf};
 ghost use Rattle.station.specs.Station.{paired, asked, axes};
 use measure::Bounds;
+use measure::HowFar;
 use measure::Point;
 use measure::Span;
 use measure::SquaredMm;
-use nearest::Badge;
-use nearest::Mark;
-use nearest::Question;
+use question::Badge;
+use question::Mark;
+use question::Question;
 
 fn point(x: i32, y: i32) -> Point
     ensures { λ r. ⌜ r ≡ record { x = x; y = y } ⌝ }
@@ -47,7 +48,7 @@ fn question_of(x: i32, y: i32, k: u32, badge: u32, dsq: u64, bay: u32) -> Questi
         k: k as usize,
         badge: Badge::from_bits(badge),
         mark: Mark {
-            dsq: SquaredMm(dsq),
+            far: HowFar(dsq),
             bay: bay,
         },
     }

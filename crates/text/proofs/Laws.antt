@@ -2,7 +2,7 @@
 use mathlib.Core.Path.{_≡_, ap}
 use mathlib.Core.List.{List, []}
 use Prim.Native.Nat.{ℕ}
-use Rattle.nearest.specs.declared.question.Question.{Question}
+use Rattle.question.specs.declared.Question.{Question}
 use Rattle.reader.specs.declared.Asked.the-variants.{Read, Bad}
 use Rattle.reader.specs.Question.{questionIn}
 use Rattle.printer.specs.Printed.{printed}

@@ -3,24 +3,26 @@
 use mathlib.Core.Path.{_≡_, sym, ap, _∙_}
 use mathlib.Core.Bool.{true, false}
 use mathlib.Core.List.{List, []}
-use Prim.Native.Nat.{ℕ, _≤_, _<_}
+use Prim.Native.Nat.{ℕ, _<_}
 use native.Mathlib.Omega.{arith}
 use lib.Dec.{leb}
-use lib.ListN.{length, take, drop}
+use lib.ListN.{length, take}
 use lib.Seq.{length-take-le, take-all}
 use borrow.Author.Tests.{leb-true, leb-false}
 use Rattle.order.proofs.Place.{by-test}
-use Rattle.nearest.specs.declared.question.Question.{Question}
+use Rattle.question.specs.declared.Question.{Question}
 use Rattle.reader.specs.Question.{questionText, Fitting}
 use Rattle.reader.proofs.Theorems.{read-back, long-bad}
 use Rattle.printer.specs.Printed.{printed}
-use Rattle.printer.proofs.Theorems.{reply-unique}
-use Rattle.ask.specs.Reply.{refusal, pageOf, refused, replyOf}
-use Rattle.ask.specs.Room.{recordsIn}
-use Rattle.ask.proofs.Reading.{room-read}
+use Rattle.printer.specs.Wrote.{Wrote}
+use Rattle.printer.proofs.Writing.{wrote-unique}
+use Rattle.words.specs.Words.{Bytes}
+use Rattle.ask.specs.Told.{pageOf}
+use Rattle.ask.specs.Reply.{refusal}
+use Rattle.record.specs.Record.{recordsIn}
+use Rattle.record.proofs.Reading.{room-read}
 use Rattle.ask.proofs.Answers.{granted, reply-page, reply-refused}
-use Rattle.demands.specs.Runs.{Bytes}
-use Rattle.demands.proofs.Pages.{page-small}
+use Rattle.ask.proofs.Fitting.{granted-ground, page-small}
 use Rattle.text.specs.Text.{emptyRoom, replyText, answerText}
 use Rattle.text.proofs.Laws.{text-read, text-bad}
 
@@ -29,7 +31,7 @@ module _ (map : List ℕ) (q : Question) (f : Fitting q) where
   says-page bytes z =
       text-read map (questionText q) q (read-back q f)
       ∙ ap replyText (reply-page map q emptyRoom z)
-      ∙ ap (printed 0) (room-read (q .k) (pageOf map q) emptyRoom (page-small map q bytes (granted map q (length emptyRoom) z)))
+      ∙ ap (printed 0) (room-read (q .k) (pageOf map q) emptyRoom (page-small map q bytes (granted-ground map q (length emptyRoom) (granted map q (length emptyRoom) z))))
 
   pub says-refusal : (refusal map q (length emptyRoom) ≡ 0 → ⊥) → answerText map (questionText q) ≡ printed (refusal map q (length emptyRoom)) []
   unfolding recordsIn
@@ -37,9 +39,8 @@ module _ (map : List ℕ) (q : Question) (f : Fitting q) where
 
 -- any two outcomes that meet the contract of `answer_text` coincide
 pub text-unique : (map input before a b : List ℕ) (r s : ℕ)
-    → (take r a ≡ answerText map input) × (r ≤ length a) × (drop r a ≡ drop r before)
-    → (take s b ≡ answerText map input) × (s ≤ length b) × (drop s b ≡ drop s before) → (r ≡ s) × (a ≡ b)
-text-unique map input before = reply-unique before (answerText map input)
+    → Wrote before a (answerText map input) 0 r → Wrote before b (answerText map input) 0 s → (r ≡ s) × (a ≡ b)
+text-unique map input before a b r s = wrote-unique
 
 -- a program that reads more than 108 bytes of its input has read enough: what comes after them does not show
 pub rest-unread : (map input : List ℕ) (n : ℕ) → 108 < n → answerText map (take n input) ≡ answerText map input

@@ -6,12 +6,15 @@ use Rattle.reader.specs.declared.Asked.{Asked}
 use Rattle.reader.specs.declared.Asked.the-variants.{Read, Bad}
 use Rattle.reader.specs.Question.{questionIn}
 use Rattle.printer.specs.Printed.{printed}
-use Rattle.ask.specs.Room.{recordsIn}
+use Rattle.record.specs.Record.{recordsIn}
 use Rattle.ask.specs.Reply.{Reply, replyOf}
 
--- a room for a hundred records
+-- a room for a hundred records, and more than they take
+abbrev pub roomSize : ℕ
+roomSize = 2800
+
 abbrev pub emptyRoom : List ℕ
-emptyRoom = replicate 1600 0
+emptyRoom = replicate roomSize 0
 
 -- a reply as text: its number, and the records in its room
 abbrev pub replyText : Reply → List ℕ

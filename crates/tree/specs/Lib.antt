@@ -1,5 +1,6 @@
--- What makes a map a tree, the words for what lies below a node, and document 01's example maps.
+-- What makes a map a tree, its bays, the words for what lies below a node, and document 01's example maps.
 pub mod Treelike
+pub mod Bays
 pub mod Below
 pub mod Smallest
 pub mod Examples

@@ -2,8 +2,8 @@
 // be taken out by them.
 ghost use Prim.Native.Nat.{_<_, _≤_};
 ghost use Rattle.trial.specs.Lengths.{Fit};
-use measure::SquaredMm;
-use nearest::Mark;
+use measure::HowFar;
+use question::Mark;
 
 pub struct Kept {
     pub lengths: [usize; 4],
@@ -17,7 +17,7 @@ impl Kept {
     {
         let lengths = [0usize; 4];
         let mark = Mark {
-            dsq: SquaredMm(0),
+            far: HowFar(0),
             bay: 0,
         };
         Kept {
@@ -36,14 +36,11 @@ impl Kept {
         self
     }
 
-    pub fn with_mark(mut self, dsq: u64, bay: u32) -> Kept
+    pub fn with_mark(mut self, far: HowFar, bay: u32) -> Kept
         requires { ⌜ Fit (self .lengths) ⌝ }
         ensures { λ r. ⌜ Fit (r .lengths) ⌝ }
     {
-        let mark = Mark {
-            dsq: SquaredMm(dsq),
-            bay,
-        };
+        let mark = Mark { far, bay };
         self.mark = mark;
         self
     }

@@ -18,6 +18,7 @@ use command::read_count;
 use kept::Kept;
 use maps::load;
 use maps::map_of;
+use measure::HowFar;
 use queries::answer_text;
 use queries::ask;
 use queries::check;
@@ -56,7 +57,7 @@ fn obey(c: Command, kept: Kept, maps: &mut [u8], room: &mut [u8]) -> Kept
             check(map_of(maps, kept, c.map));
             kept
         }
-        b'K' => kept.with_mark(c.squared(), c.c),
+        b'K' => kept.with_mark(HowFar(c.squared()), c.c),
         b'A' => ask(c, kept, map_of(maps, kept, c.map), room),
         b'T' => answer_text(c, kept, map_of(maps, kept, c.map)),
         b'D' => {

@@ -7,11 +7,12 @@ use crate::answer_room::fill;
 use crate::answer_room::sum;
 use crate::batch::read_to;
 use crate::command::Command;
-use crate::command::joined;
 use crate::kept::Kept;
 use crate::say::say;
 use libc::STDOUT_FILENO;
-use nearest::Mark;
+use printer::OUTPUT_ROOM;
+use question::Mark;
+use record::record_at;
 use station::krylozhma_ask;
 use station::krylozhma_check;
 use station::krylozhma_measure_answer;
@@ -19,7 +20,6 @@ use station::krylozhma_mindist;
 use station::krylozhma_minmaxdist;
 use station::krylozhma_plain;
 use words::signed;
-use words::u32_at;
 
 // Two numbers come in one, the first in the upper 32 bits.
 const PAIR: u64 = 4294967296;
@@ -52,9 +52,8 @@ pub fn ask(c: Command, kept: Kept, map: &[u8], room: &mut [u8]) -> Kept
     if found == 0 {
         return kept;
     }
-    let last = 16 * (found as usize - 1);
-    let dsq = joined(u32_at(room, last + 8), u32_at(room, last + 12));
-    kept.with_mark(dsq, u32_at(room, last))
+    let last = record_at(room, found as usize - 1);
+    kept.with_mark(last.far, last.bay)
 }
 
 // The answer and how many bays were found, as a pair. Only the first bytes of the room are lent, as the command says.
@@ -66,7 +65,7 @@ fn reply_to(c: Command, mark: Mark, map: &[u8], room: &mut [u8]) -> u64
     let y = signed(c.b);
     let size = c.e as usize;
     let lent = &mut room[..size];
-    krylozhma_ask(map, x, y, c.c, c.d, mark.dsq.0, mark.bay, lent)
+    krylozhma_ask(map, x, y, c.c, c.d, mark.far.0, mark.bay, lent)
 }
 
 // A question in text, which comes after the head.
@@ -82,7 +81,7 @@ pub fn answer_text(c: Command, kept: Kept, map: &[u8]) -> Kept
     if !read_to(&mut input, 0, count) {
         return kept.ended();
     }
-    let mut out = [0u8; 8192];
+    let mut out = [0u8; OUTPUT_ROOM];
     let length = text::answer_text(map, &input[..count], &mut out);
     io::write_all(STDOUT_FILENO, &out[..length]);
     kept

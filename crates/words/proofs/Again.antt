@@ -79,7 +79,8 @@ le-again k n m at h l =
     written ∙ rw append-nil at (bytes-again k n [] h)
 
 -- what is read, written again, is the bytes that were there
-pub bytes-read : (m : List ℕ) → ((i : ℕ) → Fits w8 (getD m i 0)) → (k at : ℕ) → at + k ≤ length m → leBytes k (leAt k m at) ≡ take k (drop at m)
+pub bytes-read : (m : List ℕ) → ((i : ℕ) → Fits w8 (getD m i 0)) → (k at : ℕ)
+    → at + k ≤ length m → leBytes k (leAt k m at) ≡ take k (drop at m)
 unfolding leBytes
 bytes-read m b zero at l = refl
 bytes-read m b (suc k) at l =

@@ -52,7 +52,8 @@ le-joined m (suc j) k at =
     rw (e, f) (omega (arith, le-joined m j k (at + 1), p))
 
 -- a number hangs on its own bytes only
-pub le-same : (k : ℕ) (l m : List ℕ) (at to : ℕ) → ((i : ℕ) → i < k → getD l (at + i) 0 ≡ getD m (to + i) 0) → leAt k l at ≡ leAt k m to
+pub le-same : (k : ℕ) (l m : List ℕ) (at to : ℕ)
+    → ((i : ℕ) → i < k → getD l (at + i) 0 ≡ getD m (to + i) 0) → leAt k l at ≡ leAt k m to
 unfolding leAt
 le-same zero l m at to h = refl
 le-same (suc k) l m at to h =

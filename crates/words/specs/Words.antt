@@ -1,6 +1,6 @@
 -- Little-endian numbers in a list of bytes, at every width: as they are read, and as they are written.
 use mathlib.Core.List.{List, [], _∷_}
-use Prim.Native.Nat.{ℕ, zero, suc, _+_, _*_, _/_, _%_}
+use Prim.Native.Nat.{ℕ, zero, suc, _+_, _*_, _/_, _%_, _<_}
 use lib.ListN.{getD}
 use lib.IntN.{ℤ}
 use mir.Syntax.{w32}
@@ -22,3 +22,7 @@ i32At m at = toZ w32 (leAt 4 m at)
 
 abbrev pub i32Bytes : ℤ → List ℕ
 i32Bytes z = leBytes 4 (ofZ w32 z)
+
+-- every number of a list is a byte
+abbrev pub Bytes : List ℕ → Type 0
+Bytes l = (i : ℕ) → getD l i 0 < 256

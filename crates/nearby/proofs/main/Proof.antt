@@ -2,14 +2,9 @@
 use mathlib.Core.Path.{sym}
 use lib.Seq.{length-take-le}
 use borrow.Author.Needs.{needs}
+use Rattle.printer.proofs.Writing.{wrote-inside}
 use Rattle.nearby.proofs.main.Statement.{statement}
 use Rattle.nearby.proofs.main.Tie as tie
-use Rattle.nearby.proofs.main.Reads as reads
-use Rattle.nearby.proofs.main.Lts as lts
-use Rattle.io.proofs.read_full.Reads as read-full-reads
-use Rattle.io.proofs.write_all.Reads as write-all-reads
-use Rattle.mapfile.proofs.read_map.Reads as read-map-reads
-use Rattle.text.proofs.answer_text.Reads as answer-text-reads
 
 slice-aggregate-read-map : tie.Need-slice-aggregate-read-map
 slice-aggregate-read-map c = search needs
@@ -39,10 +34,10 @@ answer-text-requires : tie.Need-answer-text-requires
 answer-text-requires c κs = search needs
 
 array-share-prefix-out : tie.Need-array-share-prefix-out
-array-share-prefix-out c = c .answer-text .ensures .1
+array-share-prefix-out c = wrote-inside (c .answer-text .ensures)
 
 slice-aggregate-write-all : tie.Need-slice-aggregate-write-all
-slice-aggregate-write-all c = let a = c .before .answer-text in sym (length-take-le (a .result) _ (a .ensures .1))
+slice-aggregate-write-all c = sym (length-take-le _ _ (wrote-inside (c .before .answer-text .ensures)))
 
 write-all-requires : tie.Need-write-all-requires
 write-all-requires c κs = search needs

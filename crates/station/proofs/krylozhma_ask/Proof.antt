@@ -5,7 +5,7 @@ use denote.Ref.{now}
 use mir.Facts.{toZ-ofZ}
 use mir.Syntax.{w32}
 use mir.Val.{SFits}
-use Rattle.nearest.specs.declared.question.Question.{Question}
+use Rattle.question.specs.declared.Question.{Question}
 use Rattle.ask.specs.Reply.{Reply, replyOf}
 use Rattle.ask.proofs.Answers.{found-few}
 use Rattle.station.specs.Station.{paired, asked}

@@ -27,7 +27,7 @@ returns c =
       from = from i;
       k = s .args .k;
       badge = record { 0 = c .from-bits .ensures i };
-      mark = record { dsq = record { 0 = s .args .dsq }; bay = s .args .bay };
+      mark = record { far = record { 0 = s .args .dsq }; bay = s .args .bay };
     }
 
 pub question-of-spec : {M : Type 1} → statement M

@@ -6,15 +6,16 @@ use mathlib.Core.Logic.{⊎-elim}
 use lib.ListN.{length}
 use denote.Ref.{now}
 use Rattle.floor.specs.View.{viewOf}
-use Rattle.nearest.specs.Best.{bayOf, listOf}
-use Rattle.nearest.proofs.Listed.{length-list, bay-at}
-use Rattle.ask.proofs.Records.{roomAfter, after-none, after-bay, after-zeros, after-all, length-after}
+use Rattle.record.specs.Record.{recordSize}
+use Rattle.record.proofs.Filling.{roomAfter, after-none, after-bay, after-zeros, after-all, length-after}
+use Rattle.ask.specs.Told.{recordOf, toldOf}
+use Rattle.ask.proofs.Filling.{told-length, told-at}
 use Rattle.ask.proofs.page.write_page.Statement.{statement}
 use Rattle.ask.proofs.page.write_page.Tie as tie
 
 abbrev Inv-loop : tie.InvT-loop
 Inv-loop map k room₀ best i₀ room i =
-    (i ≤ k) × (k ≤ 100) × (16 * k ≤ length room₀) × (room ≡ roomAfter (listOf (viewOf map) best) room₀ i)
+    (i ≤ k) × (k ≤ 100) × (recordSize * k ≤ length room₀) × (room ≡ roomAfter (toldOf (viewOf map) best) room₀ i)
 
 abbrev μ-loop : tie.MeasureT-loop
 μ-loop map k room₀ best i₀ room i = k - i
@@ -22,36 +23,30 @@ abbrev μ-loop : tie.MeasureT-loop
 loop-holds : tie.Need-loop-holds Inv-loop μ-loop
 loop-holds c =
     let s = c .before .before in
-    (omega arith, s .pre .1 .high, s .pre .2, after-none (listOf (viewOf (now (s .args .map))) (s .args .t2)) (now (s .args .room)))
+    (omega arith, s .pre .1 .high, s .pre .2, after-none (toldOf (viewOf (now (s .args .map))) (s .args .t2)) (now (s .args .room)))
 
-mul-bay-of : tie.Need-mul-bay-of Inv-loop μ-loop
-mul-bay-of c = omega arith
+mul-number : tie.Need-mul-number Inv-loop μ-loop
+mul-number c = omega arith
 
-element-copy-out-bay-of : tie.Need-element-copy-out-bay-of Inv-loop μ-loop
-element-copy-out-bay-of c = omega arith
+element-copy-out-number : tie.Need-element-copy-out-number Inv-loop μ-loop
+element-copy-out-number c = omega arith
 
-bay-of-requires : tie.Need-bay-of-requires Inv-loop μ-loop
-bay-of-requires c κs =
+record-of-requires : tie.Need-record-of-requires Inv-loop μ-loop
+record-of-requires c κs =
     let s = c .before .before .before .before .before .before in
     (s .pre .0, s .pre .1 .slots (c .before .before .before .loop .i))
-
-mul-put-record : tie.Need-mul-put-record Inv-loop μ-loop
-mul-put-record c = omega arith
 
 put-record-requires : tie.Need-put-record-requires Inv-loop μ-loop
 put-record-requires c κs =
     let l = c .before .before .before .before .before .loop in
     let s = c .before .before .before .before .before .before .before .before in
-    rw (l .inv .3, length-after (listOf (viewOf (now (s .args .map))) (s .args .t2)) (now (s .args .room)) (l .i) (omega arith)) (omega arith)
-
-mul-put-record-2 : tie.Need-mul-put-record-2 Inv-loop μ-loop
-mul-put-record-2 c = omega arith
+    rw (l .inv .3, length-after (toldOf (viewOf (now (s .args .map))) (s .args .t2)) (now (s .args .room)) (l .i) (omega arith)) (omega arith)
 
 put-record-requires-2 : tie.Need-put-record-requires-2 Inv-loop μ-loop
 put-record-requires-2 c κs =
     let l = c .before .before .before .loop in
     let s = c .before .before .before .before .before .before in
-    rw (l .inv .3, length-after (listOf (viewOf (now (s .args .map))) (s .args .t2)) (now (s .args .room)) (l .i) (omega arith)) (omega arith)
+    rw (l .inv .3, length-after (toldOf (viewOf (now (s .args .map))) (s .args .t2)) (now (s .args .room)) (l .i) (omega arith)) (omega arith)
 
 add-i : tie.Need-add-i Inv-loop μ-loop
 add-i c = omega arith
@@ -65,14 +60,14 @@ loop-again c =
     let s = c .before .before .before .before .before in
     let v = viewOf (now (s .args .map)) in
     let best = s .args .t2 in
-    let es = listOf v best in
+    let rs = toldOf v best in
     let room₀ = now (s .args .room) in
-    let long = length-list v (s .args .k) best (s .pre .1) in
-    let turn : c .if1 .room ≡ roomAfter es room₀ (l .i + 1) =
+    let long = told-length v (s .args .k) best (s .pre .1) in
+    let turn : c .if1 .room ≡ roomAfter rs room₀ (l .i + 1) =
     ⊎-elim
-    (λ w. rw (w .7, w .4 .ensures, l .inv .3, w .2 .ensures ∙ sym (bay-at v (s .args .k) best (s .pre .1) (l .i) (omega (arith, w .0 .taken))))
-    (after-bay es room₀ (l .i) (bayOf v 0) (omega (arith, w .0 .taken)) (omega arith)))
-    (λ w. rw (w .5, w .2 .ensures, l .inv .3) (after-zeros es room₀ (l .i) (omega (arith, w .0 .left)) (omega arith)))
+    (λ w. rw (w .7, w .4 .ensures, l .inv .3, w .2 .ensures ∙ sym (told-at v (s .args .k) best (s .pre .1) (l .i) (omega (arith, w .0 .taken))))
+    (after-bay rs room₀ (l .i) (recordOf v 0) (omega (arith, w .0 .taken)) (omega arith)))
+    (λ w. rw (w .5, w .2 .ensures, l .inv .3) (after-zeros rs room₀ (l .i) (omega (arith, w .0 .left)) (omega arith)))
     (c .if1 .came) in
     (omega arith, l .inv .1, l .inv .2, turn)
 
@@ -80,7 +75,7 @@ same-length : tie.Need-same-length Inv-loop μ-loop
 same-length c =
     let l = c .before .loop in
     let s = c .before .before .before .before in
-    rw (l .inv .3) (length-after (listOf (viewOf (now (s .args .map))) (s .args .t2)) (now (s .args .room)) (l .i) (omega arith))
+    rw (l .inv .3) (length-after (toldOf (viewOf (now (s .args .map))) (s .args .t2)) (now (s .args .room)) (l .i) (omega arith))
 
 returns : tie.Need-returns Inv-loop μ-loop
 returns c =
@@ -88,9 +83,9 @@ returns c =
     let s = c .before .before .before .before in
     let v = viewOf (now (s .args .map)) in
     let best = s .args .t2 in
-    let long = length-list v (s .args .k) best (s .pre .1) in
+    let long = told-length v (s .args .k) best (s .pre .1) in
     let e : l .i ≡ s .args .k = omega arith in
-    rw e at (l .inv .3) ∙ after-all (listOf v best) (now (s .args .room)) (s .args .k) (omega (arith, s .pre .1 .fits))
+    rw e at (l .inv .3) ∙ after-all (toldOf v best) (now (s .args .room)) (s .args .k) (omega (arith, s .pre .1 .fits))
 
 pub write-page-spec : {M : Type 1} → statement M
 write-page-spec =
@@ -99,12 +94,10 @@ write-page-spec =
     Inv-loop
     μ-loop
     loop-holds
-    mul-bay-of
-    element-copy-out-bay-of
-    bay-of-requires
-    mul-put-record
+    mul-number
+    element-copy-out-number
+    record-of-requires
     put-record-requires
-    mul-put-record-2
     put-record-requires-2
     add-i
     loop-less

@@ -14,11 +14,8 @@ abbrev μ-loop : tie.MeasureT-loop
 loop-holds : tie.Need-loop-holds Inv-loop μ-loop
 loop-holds c = search needs
 
-mul-record : tie.Need-mul-record Inv-loop μ-loop
-mul-record c = search needs
-
-record-requires : tie.Need-record-requires Inv-loop μ-loop
-record-requires c κs = search needs
+told-requires : tie.Need-told-requires Inv-loop μ-loop
+told-requires c κs = search needs
 
 add-i : tie.Need-add-i Inv-loop μ-loop
 add-i c = search needs
@@ -39,8 +36,7 @@ records-spec =
     Inv-loop
     μ-loop
     loop-holds
-    mul-record
-    record-requires
+    told-requires
     add-i
     loop-less
     loop-again

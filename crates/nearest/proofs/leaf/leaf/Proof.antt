@@ -11,9 +11,9 @@ use Rattle.floor.specs.View.{View, viewOf}
 use Rattle.numbers.proofs.Tests.{both}
 use Rattle.order.specs.Order.{place, gather}
 use Rattle.order.proofs.Only.{gather-more}
-use Rattle.nearest.specs.declared.question.Question.{Question}
+use Rattle.tree.specs.Below.{partBays}
+use Rattle.question.specs.declared.Question.{Question}
 use Rattle.nearest.specs.Shown.{distanceTo}
-use Rattle.nearest.specs.Below.{partBays}
 use Rattle.nearest.specs.Best.{sooner, listing}
 use Rattle.nearest.specs.Searched.{Searched}
 use Rattle.nearest.proofs.Ready.{ground-shaped}
@@ -27,7 +27,7 @@ use Rattle.nearest.proofs.leaf.leaf.Tie as tie
 -- the first i slots of a leaf are searched
 abbrev Done : View → Question → ℕ → List ℕ → ℕ → List ℕ → ℕ → ℕ → Type 0
 Done v q node keys₀ len keys up i =
-    Searched v q (gather (partBays v (distanceTo v (q .from)) 0 node) i) (listing (q .k) keys₀ len) (listing (q .k) keys up)
+    Searched v (distanceTo v (q .from)) q (gather (partBays v 0 node) i) (listing (q .k) keys₀ len) (listing (q .k) keys up)
 
 abbrev Inv-loop : tie.InvT-loop
 Inv-loop map q node len keys₀ k up₀ i₀ keys up i = (i ≤ 8) × (8 * node + 8 ≤ 2048) × Done (viewOf map) q node keys₀ len keys up i
@@ -42,7 +42,7 @@ loop-holds c =
     let v = viewOf (now (s .args .map)) in
     let few : v .count ≤ 256 = ground-shaped v (s .args .q .from) (s .pre .0) .few in
     let low : s .args .node < v .count = s .pre .1 in
-    (omega arith, omega arith, searched-none v (s .args .q) (listing (s .args .q .k) (now (s .args .keys)) (s .args .len)) (s .pre .2))
+    (omega arith, omega arith, searched-none v (distanceTo v (s .args .q .from)) (s .args .q) (listing (s .args .q .k) (now (s .args .keys)) (s .args .len)) (s .pre .2))
 
 mul-j : tie.Need-mul-j Inv-loop μ-loop
 mul-j c = omega arith
@@ -50,14 +50,14 @@ mul-j c = omega arith
 add-j : tie.Need-add-j Inv-loop μ-loop
 add-j c = omega arith
 
-sub-takes : tie.Need-sub-takes Inv-loop μ-loop
-sub-takes c = c .before .before .before .pre .2 .low
+sub-last : tie.Need-sub-last Inv-loop μ-loop
+sub-last c = c .before .before .before .pre .2 .low
 
-mul-takes : tie.Need-mul-takes Inv-loop μ-loop
-mul-takes c = omega (arith, c .before .before .before .pre .2 .high)
+mul-last : tie.Need-mul-last Inv-loop μ-loop
+mul-last c = omega (arith, c .before .before .before .pre .2 .high)
 
-element-copy-out-takes : tie.Need-element-copy-out-takes Inv-loop μ-loop
-element-copy-out-takes c = let k = c .before .before .before .pre .2 in omega (arith, k .low, k .high, k .room)
+element-copy-out-last : tie.Need-element-copy-out-last Inv-loop μ-loop
+element-copy-out-last c = let k = c .before .before .before .pre .2 in omega (arith, k .low, k .high, k .room)
 
 takes-requires : tie.Need-takes-requires Inv-loop μ-loop
 takes-requires c κs =
@@ -116,22 +116,22 @@ loop-again c =
     let q = s .args .q in
     let v = viewOf (now (s .args .map)) in
     let d = distanceTo v (q .from) in
-    let part = partBays v d 0 (s .args .node) in
+    let part = partBays v 0 (s .args .node) in
     let held = l .inv .2 .carried in
-    let turn : Searched v q (part (l .i)) (listing (q .k) (l .keys) (l .up)) (listing (q .k) (c .if1 .keys) (c .if1 .up)) =
+    let turn : Searched v d q (part (l .i)) (listing (q .k) (l .keys) (l .up)) (listing (q .k) (c .if1 .keys) (c .if1 .up)) =
     ⊎-elim
     (λ w. rw (w .6, w .7)
-    (slot-taken v d q (s .args .node) (l .i) (omega arith) (l .keys) (l .up) held _ (w .1 .up)
+    (slot-taken v d q (s .args .node) (l .i) (l .keys) (l .up) held _ (w .1 .up)
     (sym (c .before .takes .ensures) ∙ w .0 .taken) (w .5 .ensures .0) (w .5 .ensures .1)
     (⊎-elim (λ g. inl (g .0 .taken, g .1)) (λ g. inr (g .0 .left, g .1)) (w .1 .came))
     (w .5 .ensures .2 ∙ ap (λ key. place (sooner v) key (take (w .1 .up - 1) (l .keys))) (w .4 .ensures))))
     (λ w. rw (w .1, w .2)
-    (slot-left v d q (s .args .node) (l .i) (omega arith) (l .keys) (l .up) held (sym (c .before .takes .ensures) ∙ w .0 .left)))
+    (slot-left v d q (s .args .node) (l .i) (l .keys) (l .up) held (sym (c .before .takes .ensures) ∙ w .0 .left)))
     (c .if1 .came) in (
       omega arith,
       l .inv .1,
       rw (gather-more part (l .i))
-          (searched-more v q (listing (q .k) (now (s .args .keys)) (s .args .len)) (gather part (l .i)) (part (l .i)) (listing (q .k) (l .keys) (l .up)) (listing (q .k) (c .if1 .keys) (c .if1 .up)) (l .inv .2) turn),
+          (searched-more v d q (listing (q .k) (now (s .args .keys)) (s .args .len)) (gather part (l .i)) (part (l .i)) (listing (q .k) (l .keys) (l .up)) (listing (q .k) (c .if1 .keys) (c .if1 .up)) (l .inv .2) turn),
     )
 
 returns : tie.Need-returns Inv-loop μ-loop
@@ -149,9 +149,9 @@ leaf-spec =
     loop-holds
     mul-j
     add-j
-    sub-takes
-    mul-takes
-    element-copy-out-takes
+    sub-last
+    mul-last
+    element-copy-out-last
     takes-requires
     add-up
     sub-sink

@@ -27,7 +27,7 @@ returns c =
     let s = t .before .before .before in
     let q = s .args .q in
     let v = viewOf (now (s .args .map)) in
-    takes-room v (distanceTo v (q .from)) q (s .args .j) (s .args .len) (s .args .last)
+    takes-room v (distanceTo v (q .from)) q (s .args .j) (s .args .len) (s .args .last .0)
     (sym (t .before .is-filled .ensures) ∙ t .if1 .taken) (sym (w .before .wants .ensures) ∙ w .if2 .taken) (c .if3 .taken)
 
 key-at-requires : tie.Need-key-at-requires
@@ -52,11 +52,11 @@ returns-2 c =
     let s = t .before .before .before in
     let q = s .args .q in
     let v = viewOf (now (s .args .map)) in
-    takes-before v (distanceTo v (q .from)) q (s .args .j) (s .args .len) (s .args .last)
+    takes-before v (distanceTo v (q .from)) q (s .args .j) (s .args .len) (s .args .last .0)
     (sym (t .before .is-filled .ensures) ∙ t .if1 .taken)
     (sym (w .before .wants .ensures) ∙ w .if2 .taken)
     (u .if3 .left)
-    (c .is-sooner .ensures ∙ ap (λ key. sooner v key (s .args .last)) (c .before .key-at .ensures))
+    (c .is-sooner .ensures ∙ ap (λ key. sooner v key (s .args .last .0)) (c .before .key-at .ensures))
 
 returns-3 : tie.Need-returns-3
 returns-3 c =
@@ -64,7 +64,7 @@ returns-3 c =
     let s = t .before .before .before in
     let q = s .args .q in
     let v = viewOf (now (s .args .map)) in
-    takes-unwanted v (distanceTo v (q .from)) q (s .args .j) (s .args .len) (s .args .last)
+    takes-unwanted v (distanceTo v (q .from)) q (s .args .j) (s .args .len) (s .args .last .0)
     (sym (t .before .is-filled .ensures) ∙ t .if1 .taken) (sym (c .before .wants .ensures) ∙ c .if2 .left)
 
 returns-4 : tie.Need-returns-4
@@ -72,7 +72,7 @@ returns-4 c =
     let s = c .before .before .before in
     let q = s .args .q in
     let v = viewOf (now (s .args .map)) in
-    takes-none v (distanceTo v (q .from)) q (s .args .j) (s .args .len) (s .args .last) (sym (c .before .is-filled .ensures) ∙ c .if1 .left)
+    takes-none v (distanceTo v (q .from)) q (s .args .j) (s .args .len) (s .args .last .0) (sym (c .before .is-filled .ensures) ∙ c .if1 .left)
 
 pub takes-spec : {M : Type 1} → statement M
 takes-spec =

@@ -11,8 +11,8 @@ use Rattle.nearest.proofs.reach.gap.Tie as tie
 is-filled-requires : tie.Need-is-filled-requires
 is-filled-requires c κs = let s = c .before in (ground-shaped (viewOf (now (s .args .map))) (s .args .p) (s .pre .0), s .pre .1)
 
-gap-to-requires : tie.Need-gap-to-requires
-gap-to-requires c κs = let s = c .before .before .before in (s .pre .0, s .pre .1, sym (c .before .is-filled .ensures) ∙ c .if1 .taken)
+how-far-requires : tie.Need-how-far-requires
+how-far-requires c κs = let s = c .before .before .before in (s .pre .0, s .pre .1, sym (c .before .is-filled .ensures) ∙ c .if1 .taken)
 
 returns : tie.Need-returns
 unfolding gapOf
@@ -20,7 +20,7 @@ returns c =
     let t = c .before in
     let s = t .before .before .before in
     let f : filled (viewOf (now (s .args .map))) (s .args .j) ≡ true = sym (t .before .is-filled .ensures) ∙ t .if1 .taken in
-    rw f (c .gap-to .ensures)
+    rw f (c .how-far .ensures)
 
 returns-2 : tie.Need-returns-2
 unfolding gapOf
@@ -30,4 +30,4 @@ returns-2 c =
     rw f
 
 pub gap-spec : {M : Type 1} → statement M
-gap-spec = tie.close (tie.spec is-filled-requires gap-to-requires returns returns-2)
+gap-spec = tie.close (tie.spec is-filled-requires how-far-requires returns returns-2)

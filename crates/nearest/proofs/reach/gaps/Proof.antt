@@ -6,7 +6,7 @@ use mathlib.Core.Path.{_≡_}
 use lib.ListN.{length, getD, length-set}
 use denote.Ref.{now}
 use borrow.Author.Needs.{needs}
-use Rattle.measure.specs.declared.SquaredMm.{SquaredMm}
+use Rattle.measure.specs.declared.HowFar.{HowFar}
 use Rattle.floor.specs.View.{viewOf}
 use Rattle.nearest.specs.Shown.{distanceTo}
 use Rattle.nearest.specs.Reach.{none, gapOf}
@@ -62,7 +62,7 @@ loop-again c =
       omega arith,
       simp length-set (l .loop .inv .1),
       l .loop .inv .2,
-      filled-next (λ (s : SquaredMm). s .0) none (λ j. gapOf v (distanceTo v (s .args .p)) (8 * s .args .node + j)) (l .loop .ds) (l .loop .i) (c .gap .result) (omega arith) (l .loop .inv .3) (c .gap .ensures),
+      filled-next (λ (s : HowFar). s .0) none (λ j. gapOf v (distanceTo v (s .args .p)) (8 * s .args .node + j)) (l .loop .ds) (l .loop .i) (c .gap .result) (omega arith) (l .loop .inv .3) (c .gap .ensures),
     )
 
 returns : tie.Need-returns Inv-loop μ-loop

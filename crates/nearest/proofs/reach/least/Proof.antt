@@ -5,7 +5,7 @@ use mathlib.Core.Path.{_≡_}
 use mathlib.Core.Logic.{⊎-elim}
 use lib.ListN.{length, getD}
 use borrow.Author.Needs.{needs}
-use Rattle.measure.specs.declared.SquaredMm.{SquaredMm}
+use Rattle.measure.specs.declared.HowFar.{HowFar}
 use Rattle.nearest.specs.Reach.{none}
 use Rattle.numbers.proofs.Arrays.{least-next}
 use Rattle.nearest.proofs.reach.least.Statement.{statement}
@@ -43,8 +43,8 @@ loop-again c =
     let l = c .before .before .loop in
     let ds = c .before .before .before .args .t1 in
     ⊎-elim
-    (λ w. rw (w .1) (omega arith, omega arith, l .inv .2, least-next (λ (s : SquaredMm). s .0) none ds (l .at) (l .i) (l .i) (l .inv .3) (omega (arith, w .0 .taken)) (omega arith)))
-    (λ w. rw (w .1) (omega arith, omega arith, l .inv .2, least-next (λ (s : SquaredMm). s .0) none ds (l .at) (l .i) (l .at) (l .inv .3) (omega arith) (omega (arith, w .0 .left))))
+    (λ w. rw (w .1) (omega arith, omega arith, l .inv .2, least-next (λ (s : HowFar). s .0) none ds (l .at) (l .i) (l .i) (l .inv .3) (omega (arith, w .0 .taken)) (omega arith)))
+    (λ w. rw (w .1) (omega arith, omega arith, l .inv .2, least-next (λ (s : HowFar). s .0) none ds (l .at) (l .i) (l .at) (l .inv .3) (omega arith) (omega (arith, w .0 .left))))
     (c .if1 .came)
 
 returns : tie.Need-returns Inv-loop μ-loop

@@ -15,22 +15,21 @@ use borrow.Fn.Kinds.{In}
 use borrow.Fn.PlainCycle.{Measures, is, falls, and}
 use Rattle.numbers.specs.Below.{countBelow}
 use Rattle.numbers.proofs.Tests.{both}
-use Rattle.measure.specs.declared.SquaredMm.{SquaredMm}
+use Rattle.measure.specs.declared.HowFar.{HowFar}
 use Rattle.floor.specs.View.{View, viewOf}
-use Rattle.order.specs.Order.{gather}
-use Rattle.order.proofs.Visits.{taken}
+use Rattle.tree.specs.Below.{partBays}
+use Rattle.tree.proofs.Tree.{keeps-treelike}
+use Rattle.question.specs.declared.Question.{Question}
 use Rattle.nearest.specs.declared.best.Best.{Best}
-use Rattle.nearest.specs.declared.question.Question.{Question}
 use Rattle.nearest.specs.Shown.{distanceTo}
-use Rattle.nearest.specs.Below.{partBays}
 use Rattle.nearest.specs.Reach.{none, beyond, opened}
 use Rattle.nearest.specs.Searched.{Searched}
 use Rattle.nearest.proofs.Ready.{ground-shaped}
 use Rattle.nearest.proofs.Offer.{listed}
-use Rattle.nearest.proofs.Searching.{searched-in-place}
+use Rattle.nearest.proofs.Searching.{kept-in-place}
 use Rattle.nearest.proofs.Keys.{gap-small}
 use Rattle.nearest.proofs.Page.{mindist-grows}
-use Rattle.nearest.proofs.Visits.{openAt, fewer, Marks, marks-start, marks-next, child-there, child-level, part-down, parts-none, parts-one, parts-stop}
+use Rattle.nearest.proofs.Visits.{openAt, fewer, Marks, marks-start, marks-next, child-there, child-level, part-down, Visited, visits-none, visits-one, visits-stop}
 use Rattle.nearest.proofs.search.search.Reads as search′
 use Rattle.nearest.proofs.search.search.Kinds as search-kinds
 use Rattle.nearest.proofs.search.+search.Lts-search as search-lts
@@ -75,14 +74,10 @@ claims t = (
 opened-there : (d worst : ℕ) {r : Bool} → r ≡ opened d worst → r ≡ true → ltb d beyond ≡ true
 opened-there d worst e t = both (ltb d beyond) (leb d worst) (sym e ∙ t) .0
 
--- the slots that are shut in ds are searched
-abbrev Done : View → Question → ℕ → ℕ → List SquaredMm → Best → Best → Type 0
-Done v q node level ds b₀ b = Searched v q (gather (taken (openAt ds) (partBays v (distanceTo v (q .from)) level node)) 8) b₀ b
-
 abbrev Inv-loop : search-lts.InvT-loop
 Inv-loop map q node level b₀ ds₀ j₀ b ds j =
     (length ds ≡ 8) × (j < 8) × (8 * node + 8 ≤ 2048) × ((i : ℕ) → i < 8 → getD ds j none .0 ≤ getD ds i none .0)
-    × Marks (viewOf map) (distanceTo (viewOf map) (q .from)) node ds × Done (viewOf map) q node level ds b₀ b
+    × Marks (viewOf map) (distanceTo (viewOf map) (q .from)) node ds × Visited (viewOf map) (distanceTo (viewOf map) (q .from)) q level node ds b₀ b
 
 abbrev μ-loop : search-lts.MeasureT-loop
 μ-loop map q node level b₀ ds₀ j₀ b ds j = countBelow (openAt ds) 8
@@ -108,7 +103,7 @@ loop-holds t c =
       omega arith,
       c .least .ensures .1,
       marks-start v d (s .args .node) (c .before .gaps .result) g,
-      parts-none v (ground .keeps) d q (s .args .level) (s .args .node) low (s .pre .1 .2) (λ i h f. omega (arith, gap-small v (q .from) ground i h f)) (c .before .gaps .result) (s .args .best) g (s .pre .1 .4),
+      visits-none v d q (s .args .level) (s .args .node) (ground .keeps) low (s .pre .1 .2) (λ i h f. omega (arith, gap-small v (q .from) ground i h f)) (c .before .gaps .result) (s .args .best) g (s .pre .1 .4),
     )
 
 mul-opens : (t : ℕ) → search-lts.Need-mul-opens (claims t) (search-at t) search′.Post Inv-loop μ-loop
@@ -144,17 +139,17 @@ leaf-requires t c κs =
     let s = th .before .before .before .before .before .before .before .before in
     let v = viewOf (now (s .args .map)) in
     let f = l .inv .4 (l .j) (l .inv .1) (opened-there (getD (l .ds) (l .j) none .0) (l .b .worst .0) (th .before .opens .ensures) (th .if1 .taken)) .0 in
-    let there = child-there v (s .pre .1 .0 .keeps) (distanceTo v (s .args .q .from)) (s .args .level) (s .args .node) (l .j) (s .pre .1 .1) (s .pre .1 .2) (s .pre .1 .3) (l .inv .1) f in
+    let there = child-there v (keeps-treelike (s .pre .1 .0 .keeps)) (s .args .level) (s .args .node) (l .j) (s .pre .1 .1) (s .pre .1 .2) (s .pre .1 .3) (l .inv .1) f in
     (s .pre .1 .0, rw (c .before .before .ref-of .ensures) there, listed v (s .args .q .k) (l .b) (l .inv .5 .carried))
 
-sub-worst-of : (t : ℕ) → search-lts.Need-sub-worst-of (claims t) (search-at t) search′.Post Inv-loop μ-loop
-sub-worst-of t c = c .before .leaf .ensures .carried .low
+sub-last : (t : ℕ) → search-lts.Need-sub-last (claims t) (search-at t) search′.Post Inv-loop μ-loop
+sub-last t c = c .before .leaf .ensures .carried .low
 
-mul-worst-of : (t : ℕ) → search-lts.Need-mul-worst-of (claims t) (search-at t) search′.Post Inv-loop μ-loop
-mul-worst-of t c = omega (arith, c .before .leaf .ensures .carried .high)
+mul-last : (t : ℕ) → search-lts.Need-mul-last (claims t) (search-at t) search′.Post Inv-loop μ-loop
+mul-last t c = omega (arith, c .before .leaf .ensures .carried .high)
 
-element-copy-out-worst-of : (t : ℕ) → search-lts.Need-element-copy-out-worst-of (claims t) (search-at t) search′.Post Inv-loop μ-loop
-element-copy-out-worst-of t c = let k = c .before .leaf .ensures .carried in omega (arith, k .low, k .high, k .room)
+element-copy-out-last : (t : ℕ) → search-lts.Need-element-copy-out-last (claims t) (search-at t) search′.Post Inv-loop μ-loop
+element-copy-out-last t c = let k = c .before .leaf .ensures .carried in omega (arith, k .low, k .high, k .room)
 
 worst-of-requires : (t : ℕ) → search-lts.Need-worst-of-requires (claims t) (search-at t) search′.Post Inv-loop μ-loop
 worst-of-requires t c κs = search needs
@@ -174,8 +169,8 @@ search-requires t c κs =
     let mea : s .args .level ≡ t = s .pre .0 in
     let ne : s .args .level ≡ 1 → ⊥ = c .if2 .left in
     let f = l .inv .4 (l .j) (l .inv .1) (opened-there (getD (l .ds) (l .j) none .0) (l .b .worst .0) (th .before .opens .ensures) (th .if1 .taken)) .0 in
-    let there = child-there v keeps d (s .args .level) (s .args .node) (l .j) (s .pre .1 .1) (s .pre .1 .2) up (l .inv .1) f in
-    let falls = child-level v keeps d (s .args .level) (s .args .node) (l .j) (s .pre .1 .1) (s .pre .1 .2) up (l .inv .1) f in
+    let there = child-there v (keeps-treelike keeps) (s .args .level) (s .args .node) (l .j) (s .pre .1 .1) (s .pre .1 .2) up (l .inv .1) f in
+    let falls = child-level v (keeps-treelike keeps) (s .args .level) (s .args .node) (l .j) (s .pre .1 .1) (s .pre .1 .2) up (l .inv .1) f in
     (omega arith, (s .pre .1 .0, rw (c .before .ref-of .ensures) there, rw (c .before .ref-of .ensures) falls, omega arith, l .inv .5 .carried))
 
 mul-ds : (t : ℕ) → search-lts.Need-mul-ds (claims t) (search-at t) search′.Post Inv-loop μ-loop
@@ -208,12 +203,12 @@ loop-again t c =
     let j = l .j in
     let goes = opened-there (getD (l .ds) j none .0) (l .b .worst .0) (th .before .opens .ensures) (th .if1 .taken) in
     let f = l .inv .4 j (l .inv .1) goes .0 in
-    let down = part-down v keeps d level node j (s .pre .1 .1) (s .pre .1 .2) (s .pre .1 .3) (l .inv .1) f in
+    let down = part-down v (keeps-treelike keeps) level node j (s .pre .1 .1) (s .pre .1 .2) (s .pre .1 .3) (l .inv .1) f in
     let child : c .before .before .ref-of .result ≡ v .ref (8 * node + j) = c .before .before .ref-of .ensures in
-    let step : Searched v q (partBays v d level node j) (l .b) (c .before .if2 .b) =
+    let step : Searched v d q (partBays v level node j) (l .b) (c .before .if2 .b) =
     ⊎-elim
     (λ w. let one : level - 1 ≡ 0 = omega (arith, w .0 .taken) in
-    rw (w .6, down, ← child, one) (searched-in-place (l .b) (w .2 .ensures) (w .5 .ensures)))
+    rw (w .6, down, ← child, one) (kept-in-place (l .b) (w .2 .ensures) (w .5 .ensures)))
     (λ w. rw (w .2, down, ← child) (w .1 .ensures))
     (c .before .if2 .came) in (
       simp length-set (l .inv .0),
@@ -221,7 +216,7 @@ loop-again t c =
       l .inv .2,
       c .least2 .ensures .1,
       marks-next v d node (l .ds) j (l .inv .0) (l .inv .1) (l .inv .4),
-      parts-one v keeps d q level node (s .pre .1 .1) (s .pre .1 .2) (l .ds) j (s .args .best) (l .b) (c .before .if2 .b) (l .inv .0) (l .inv .1) goes (l .inv .5) step,
+      visits-one v d q level node keeps (s .pre .1 .1) (s .pre .1 .2) (l .ds) j (s .args .best) (l .b) (c .before .if2 .b) (l .inv .0) (l .inv .1) goes (l .inv .5) step,
     )
 
 returns : (t : ℕ) → search-lts.Need-returns (claims t) (search-at t) search′.Post Inv-loop μ-loop
@@ -231,7 +226,7 @@ returns t c =
     let q = s .args .q in
     let v = viewOf (now (s .args .map)) in
     let keeps = s .pre .1 .0 .keeps in
-    parts-stop v keeps (distanceTo v (q .from)) q (s .args .level) (s .args .node) (s .pre .1 .1) (s .pre .1 .2) (mindist-grows v keeps (q .from)) (l .ds) (l .j) (s .args .best) (l .b) (l .inv .4) (l .inv .3)
+    visits-stop v (distanceTo v (q .from)) q (s .args .level) (s .args .node) keeps (s .pre .1 .1) (s .pre .1 .2) (mindist-grows v keeps (q .from)) (l .ds) (l .j) (s .args .best) (l .b) (l .inv .4) (l .inv .3)
     (sym (c .before .opens .ensures) ∙ c .if1 .left) (l .inv .5)
 
 pub +search-spec : {M : Type 1} → statement M
@@ -251,9 +246,9 @@ pub +search-spec : {M : Type 1} → statement M
     (ref-of-requires t)
     (cast-child t)
     (leaf-requires t)
-    (sub-worst-of t)
-    (mul-worst-of t)
-    (element-copy-out-worst-of t)
+    (sub-last t)
+    (mul-last t)
+    (element-copy-out-last t)
     (worst-of-requires t)
     (sub-search t)
     (search-requires t)

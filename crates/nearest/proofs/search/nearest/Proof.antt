@@ -5,6 +5,7 @@ use mathlib.Core.Path.{_≡_, refl, sym, _∙_}
 use denote.Ref.{now}
 use borrow.Author.Needs.{needs}
 use Rattle.floor.specs.View.{viewOf}
+use Rattle.nearest.specs.Shown.{distanceTo}
 use Rattle.nearest.specs.Best.{noBays}
 use Rattle.nearest.proofs.Ready.{ground-shaped}
 use Rattle.nearest.proofs.Start.{no-bays-carried, root-found}
@@ -30,7 +31,7 @@ returns : tie.Need-returns
 returns c =
     let r = c .before .before .before in
     let s = r .before .before in
-    root-found (viewOf (now (s .args .map))) (s .args .q) (r .root-of .result) 0 noBays (c .one-leaf .result) (s .pre .0 .keeps)
+    root-found (viewOf (now (s .args .map))) (distanceTo (viewOf (now (s .args .map))) (s .args .q .from)) (s .args .q) (r .root-of .result) 0 noBays (c .one-leaf .result) (s .pre .0 .keeps)
     (r .root-of .ensures) (sym (c .before .if1 .taken) ∙ c .before .before .level-of .ensures) refl (c .one-leaf .ensures)
 
 no-bays-requires : tie.Need-no-bays-requires
@@ -53,7 +54,7 @@ returns-2 : tie.Need-returns-2
 returns-2 c =
     let r = c .before .before .before .before in
     let s = c .before .before .before .before .before .before in
-    root-found (viewOf (now (s .args .map))) (s .args .q) (r .root-of .result) (c .before .before .before .level-of .result) (c .before .no-bays .result) (c .search .result) (s .pre .0 .keeps)
+    root-found (viewOf (now (s .args .map))) (distanceTo (viewOf (now (s .args .map))) (s .args .q .from)) (s .args .q) (r .root-of .result) (c .before .before .before .level-of .result) (c .before .no-bays .result) (c .search .result) (s .pre .0 .keeps)
     (r .root-of .ensures) (c .before .before .before .level-of .ensures) (c .before .no-bays .ensures) (c .search .ensures)
 
 pub nearest-spec : {M : Type 1} → statement M

@@ -6,7 +6,7 @@ use Rattle.floor.specs.View.{viewOf}
 use Rattle.nearest.specs.Best.{noBays}
 use Rattle.nearest.proofs.Ready.{ground-shaped}
 use Rattle.nearest.proofs.Offer.{listed}
-use Rattle.nearest.proofs.Searching.{searched-in-place}
+use Rattle.nearest.proofs.Searching.{kept-in-place}
 use Rattle.nearest.proofs.Start.{no-bays-carried}
 use Rattle.nearest.proofs.search.one_leaf.Statement.{statement}
 use Rattle.nearest.proofs.search.one_leaf.Tie as tie
@@ -21,14 +21,14 @@ leaf-requires c κs =
     let shaped = ground-shaped v (s .args .q .from) (s .pre .0) in
     (s .pre .0, s .pre .1, rw (c .before .no-bays .ensures) (listed v (s .args .q .k) noBays (no-bays-carried v (s .args .q .k) shaped (s .pre .2) (s .pre .3))))
 
-sub-worst-of : tie.Need-sub-worst-of
-sub-worst-of c = c .before .leaf .ensures .carried .low
+sub-last : tie.Need-sub-last
+sub-last c = c .before .leaf .ensures .carried .low
 
-mul-worst-of : tie.Need-mul-worst-of
-mul-worst-of c = omega (arith, c .before .leaf .ensures .carried .high)
+mul-last : tie.Need-mul-last
+mul-last c = omega (arith, c .before .leaf .ensures .carried .high)
 
-element-copy-out-worst-of : tie.Need-element-copy-out-worst-of
-element-copy-out-worst-of c = let k = c .before .leaf .ensures .carried in omega (arith, k .low, k .high, k .room)
+element-copy-out-last : tie.Need-element-copy-out-last
+element-copy-out-last c = let k = c .before .leaf .ensures .carried in omega (arith, k .low, k .high, k .room)
 
 worst-of-requires : tie.Need-worst-of-requires
 worst-of-requires c κs = search needs
@@ -36,9 +36,9 @@ worst-of-requires c κs = search needs
 returns : tie.Need-returns
 returns c =
     let done = c .before .before .before in
-    searched-in-place noBays (rw (done .before .before .no-bays .ensures) at (done .leaf .ensures)) (c .worst-of .ensures)
+    kept-in-place noBays (rw (done .before .before .no-bays .ensures) at (done .leaf .ensures)) (c .worst-of .ensures)
 
 pub one-leaf-spec : {M : Type 1} → statement M
 one-leaf-spec =
     tie.close
-    (tie.spec no-bays-requires leaf-requires sub-worst-of mul-worst-of element-copy-out-worst-of worst-of-requires returns)
+    (tie.spec no-bays-requires leaf-requires sub-last mul-last element-copy-out-last worst-of-requires returns)

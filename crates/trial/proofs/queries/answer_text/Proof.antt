@@ -2,6 +2,7 @@
 use mathlib.Core.Path.{sym}
 use lib.Seq.{length-take-le}
 use borrow.Author.Needs.{needs}
+use Rattle.printer.proofs.Writing.{wrote-inside}
 use Rattle.trial.proofs.queries.answer_text.Statement.{statement}
 use Rattle.trial.proofs.queries.answer_text.Tie as tie
 
@@ -36,10 +37,10 @@ answer-text-requires : tie.Need-answer-text-requires
 answer-text-requires c κs = search needs
 
 array-share-prefix-out : tie.Need-array-share-prefix-out
-array-share-prefix-out c = search needs
+array-share-prefix-out c = wrote-inside (c .answer-text .ensures)
 
 slice-aggregate-write-all : tie.Need-slice-aggregate-write-all
-slice-aggregate-write-all c = sym (length-take-le _ _ (c .before .answer-text .ensures .1))
+slice-aggregate-write-all c = sym (length-take-le _ _ (wrote-inside (c .before .answer-text .ensures)))
 
 write-all-requires : tie.Need-write-all-requires
 write-all-requires c κs = search needs

@@ -1,0 +1,2 @@
+-- The laws of the order of bays.
+pub mod Before

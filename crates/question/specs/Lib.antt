@@ -1,0 +1,3 @@
+-- The badge, and the order of bays.
+pub mod Badge
+pub mod Mark

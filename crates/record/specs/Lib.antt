@@ -1,0 +1,2 @@
+-- The bytes of a record, and of a room full of them.
+pub mod Record
