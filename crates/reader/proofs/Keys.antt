@@ -9,7 +9,7 @@ use lib.ListN.{length, drop, getD, drop-of-length-le}
 use lib.Seq.{drop-cons}
 use borrow.Author.Tests.{eq-eqb, ne-eqb, eqb-true}
 use Rattle.numbers.proofs.Tests.{both}
-use Rattle.reader.specs.Line.{startsWith}
+use Rattle.reader.specs.Chain.{startsWith}
 
 module _ (text key : List ℕ) (i j : ℕ) where
   pub starts-out : length text ≤ i → j < length key → startsWith (drop j key) (drop i text) ≡ false

@@ -1,5 +1,5 @@
--- A question's text and what reading a text gives; and, for the proofs of the code, how it is read.
+-- Fields of a text, a question's text and what reading a text gives; and, for the proofs of the code, how it is read.
+pub mod Fields
 pub mod Scan
-pub mod Line
-pub mod Question
-pub mod Table
+pub mod Chain
+pub mod QuestionText

@@ -1,15 +1,26 @@
-// A number read byte by byte, up to its newline.
+// A number read byte by byte, up to the byte that ends its field.
 ghost use mathlib.Core.Path.{_≡_};
-ghost use mathlib.Core.Bool.{cond};
 ghost use Prim.Native.Nat.{_+_, _*_, _≤_};
 ghost use lib.Dec.{leb};
 ghost use lib.ListN.{length, drop};
-ghost use Rattle.reader.specs.Scan.{growOf, digitOf, minusOf, endOf, stepOf, scan, Reads};
+ghost use Rattle.reader.specs.Scan.{limitOf, growOf, digitOf, minusOf, finishOf, stopOf, byteOf, scan, Reads};
 
-// What a line holds: a number, as whether it has a minus and its size, or nothing of use.
+// What a field holds: a number, as whether it has a minus and its size, or nothing of use.
 pub enum Number {
     Is(bool, u64),
     Wrong,
+}
+
+// How large a number may be, and how large behind a minus.
+pub struct Limits {
+    pub most: u64,
+    pub least: u64,
+}
+
+// What ends a field.
+pub enum Stop {
+    Newline,
+    Space,
 }
 
 // What was read of a number so far.
@@ -25,7 +36,7 @@ pub enum Step {
     End(Number),
 }
 
-// A number, and where its line ends.
+// A number, and where its field ends.
 pub struct Reading {
     pub number: Number,
     pub next: usize,
@@ -51,30 +62,30 @@ fn grow(minus: bool, n: u64, d: u64, limit: u64) -> Step
     }
 }
 
-fn limit_of(minus: bool, most: u64, least: u64) -> u64
-    ensures { λ r. ⌜ r ≡ cond minus least most ⌝ }
+fn limit_of(minus: bool, limits: Limits) -> u64
+    ensures { λ r. ⌜ r ≡ limitOf minus limits ⌝ }
 {
-    if minus { least } else { most }
+    if minus { limits.least } else { limits.most }
 }
 
 // No zero behind a minus, and nothing behind a zero that came first.
-fn at_digit(s: State, d: u64, most: u64, least: u64) -> Step
-    ensures { λ r. ⌜ r ≡ digitOf most least s d ⌝ }
+fn at_digit(s: State, d: u64, limits: Limits) -> Step
+    ensures { λ r. ⌜ r ≡ digitOf limits s d ⌝ }
 {
     match s {
-        State::Empty => grow(false, 0, d, most),
+        State::Empty => grow(false, 0, d, limits.most),
         State::Sign => {
             if d == 0 {
                 Step::End(Number::Wrong)
             } else {
-                grow(true, 0, d, least)
+                grow(true, 0, d, limits.least)
             }
         }
         State::Digits(minus, n) => {
             if n == 0 {
                 Step::End(Number::Wrong)
             } else {
-                grow(minus, n, d, limit_of(minus, most, least))
+                grow(minus, n, d, limit_of(minus, limits))
             }
         }
     }
@@ -90,8 +101,8 @@ fn at_minus(s: State) -> Step
     }
 }
 
-fn at_newline(s: State) -> Number
-    ensures { λ r. ⌜ r ≡ endOf s ⌝ }
+fn at_end(s: State) -> Number
+    ensures { λ r. ⌜ r ≡ finishOf s ⌝ }
 {
     match s {
         State::Empty => Number::Wrong,
@@ -100,26 +111,45 @@ fn at_newline(s: State) -> Number
     }
 }
 
-fn advance(s: State, b: u8, most: u64, least: u64) -> Step
-    ensures { λ r. ⌜ r ≡ stepOf most least s b ⌝ }
+fn at_newline(s: State, stop: Stop) -> Number
+    ensures { λ r. ⌜ r ≡ stopOf stop s 10 ⌝ }
+{
+    match stop {
+        Stop::Newline => at_end(s),
+        Stop::Space => Number::Wrong,
+    }
+}
+
+fn at_space(s: State, stop: Stop) -> Number
+    ensures { λ r. ⌜ r ≡ stopOf stop s 32 ⌝ }
+{
+    match stop {
+        Stop::Newline => Number::Wrong,
+        Stop::Space => at_end(s),
+    }
+}
+
+fn advance(s: State, b: u8, limits: Limits, stop: Stop) -> Step
+    ensures { λ r. ⌜ r ≡ byteOf limits stop s b ⌝ }
 {
     match b {
-        b'0'..=b'9' => at_digit(s, (b - b'0') as u64, most, least),
+        b'0'..=b'9' => at_digit(s, (b - b'0') as u64, limits),
         b'-' => at_minus(s),
-        b'\n' => Step::End(at_newline(s)),
+        b'\n' => Step::End(at_newline(s, stop)),
+        b' ' => Step::End(at_space(s, stop)),
         _ => Step::End(Number::Wrong),
     }
 }
 
-// The number whose line goes on at `at`, at most `most` and at least minus `least`.
-pub fn read_number(text: &[u8], at: usize, most: u64, least: u64) -> Reading
+// The number whose field goes on at `at`.
+pub fn read_number(text: &[u8], at: usize, limits: Limits, stop: Stop) -> Reading
     requires { ⌜ at ≤ length (now text) ⌝ }
-    ensures { λ r. ⌜ Reads (now (text .entry)) (scan most least State.Empty (drop at (now (text .entry)))) r ⌝ }
+    ensures { λ r. ⌜ Reads (now (text .entry)) (scan limits stop State.Empty (drop at (now (text .entry)))) r ⌝ }
 {
     let mut s = State::Empty;
     let mut i = at;
     while i < text.len() {
-        let next = advance(s, text[i], most, least);
+        let next = advance(s, text[i], limits, stop);
         i += 1;
         match next {
             Step::On(t) => s = t,

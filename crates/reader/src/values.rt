@@ -1,9 +1,9 @@
 // What was read, as values of the question's types.
 ghost use mathlib.Core.Path.{_≡_};
 ghost use mathlib.Core.List.{[], _∷_};
-ghost use Rattle.reader.specs.Scan.{Within};
-ghost use Rattle.reader.specs.Line.{isNumber, allNumbers, wholeOf, sizeOf, i32Most, i32Least, u32Most, unsignedLeast, questionOf};
-ghost use Rattle.reader.specs.Table.{fields, Ranges};
+ghost use Rattle.reader.specs.Fields.{InLimits, AllInLimits};
+ghost use Rattle.reader.specs.Chain.{isNumber, allNumbers};
+ghost use Rattle.reader.specs.QuestionText.{i32Limits, u32Limits, questionFields, wholeOf, sizeOf, questionOf};
 use crate::number::Number;
 use measure::HowFar;
 use measure::Point;
@@ -20,16 +20,16 @@ fn is_number(n: Number) -> bool
     }
 }
 
-pub fn are_numbers(x: Number, y: Number, k: Number, badge: Number, dsq: Number, bay: Number) -> bool
-    ensures { λ r. ⌜ r ≡ allNumbers x y k badge dsq bay ⌝ }
+pub fn are_numbers(x: Number, y: Number, k: Number, badge: Number, far: Number, bay: Number) -> bool
+    ensures { λ r. ⌜ r ≡ allNumbers (x ∷ y ∷ k ∷ badge ∷ far ∷ bay ∷ []) ⌝ }
 {
     is_number(x)
-        & (is_number(y) & (is_number(k) & (is_number(badge) & (is_number(dsq) & is_number(bay)))))
+        & (is_number(y) & (is_number(k) & (is_number(badge) & (is_number(far) & is_number(bay)))))
 }
 
 // `!(size - 1)` is minus size, and reaches the least i32, which has no opposite.
 fn whole(n: Number) -> i32
-    requires { ⌜ Within i32Most i32Least n ⌝ }
+    requires { ⌜ InLimits i32Limits n ⌝ }
     ensures { λ r. ⌜ r ≡ wholeOf n ⌝ }
 {
     match n {
@@ -54,7 +54,7 @@ fn natural(n: Number) -> u64
 }
 
 fn small(n: Number) -> u32
-    requires { ⌜ Within u32Most unsignedLeast n ⌝ }
+    requires { ⌜ InLimits u32Limits n ⌝ }
     ensures { λ r. ⌜ r ≡ sizeOf n ⌝ }
 {
     match n {
@@ -68,11 +68,11 @@ pub fn question_of(
     y: Number,
     k: Number,
     badge: Number,
-    dsq: Number,
+    far: Number,
     bay: Number,
 ) -> Question
-    requires { ⌜ Ranges fields (x ∷ y ∷ k ∷ badge ∷ dsq ∷ bay ∷ []) ⌝ }
-    ensures { λ r. ⌜ r ≡ questionOf x y k badge dsq bay ⌝ }
+    requires { ⌜ AllInLimits questionFields (x ∷ y ∷ k ∷ badge ∷ far ∷ bay ∷ []) ⌝ }
+    ensures { λ r. ⌜ r ≡ questionOf (x ∷ y ∷ k ∷ badge ∷ far ∷ bay ∷ []) ⌝ }
 {
     let from = Point {
         x: whole(x),
@@ -80,7 +80,7 @@ pub fn question_of(
     };
     let k = natural(k) as usize;
     let badge = Badge::from_bits(small(badge));
-    let far = HowFar(natural(dsq));
+    let far = HowFar(natural(far));
     let mark = Mark {
         far,
         bay: small(bay),

@@ -4,7 +4,7 @@ use mathlib.Core.List.{List, []}
 use Prim.Native.Nat.{ℕ}
 use Rattle.question.specs.declared.Question.{Question}
 use Rattle.reader.specs.declared.Asked.the-variants.{Read, Bad}
-use Rattle.reader.specs.Question.{questionIn}
+use Rattle.reader.specs.QuestionText.{questionIn}
 use Rattle.printer.specs.Printed.{printed}
 use Rattle.ask.specs.Reply.{replyOf}
 use Rattle.text.specs.Text.{emptyRoom, replyText, textFor, answerText}

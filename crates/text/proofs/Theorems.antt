@@ -11,7 +11,7 @@ use lib.Seq.{length-take-le, take-all}
 use borrow.Author.Tests.{leb-true, leb-false}
 use Rattle.order.proofs.Place.{by-test}
 use Rattle.question.specs.declared.Question.{Question}
-use Rattle.reader.specs.Question.{questionText, Fitting}
+use Rattle.reader.specs.QuestionText.{questionText, Fitting}
 use Rattle.reader.proofs.Theorems.{read-back, long-bad}
 use Rattle.printer.specs.Printed.{printed}
 use Rattle.printer.specs.Wrote.{Wrote}

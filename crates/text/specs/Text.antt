@@ -4,7 +4,7 @@ use Prim.Native.Nat.{ℕ}
 use lib.ListN.{replicate}
 use Rattle.reader.specs.declared.Asked.{Asked}
 use Rattle.reader.specs.declared.Asked.the-variants.{Read, Bad}
-use Rattle.reader.specs.Question.{questionIn}
+use Rattle.reader.specs.QuestionText.{questionIn}
 use Rattle.printer.specs.Printed.{printed}
 use Rattle.record.specs.Record.{recordsIn}
 use Rattle.ask.specs.Reply.{Reply, replyOf}

@@ -8,44 +8,57 @@ use borrow.Author.Needs.{needs}
 use borrow.Author.Tests.{not-true, not-false}
 use Rattle.reader.specs.declared.Asked.the-variants.{Read}
 use Rattle.reader.specs.Scan.{Scan}
-use Rattle.reader.specs.Line.{seen}
-use Rattle.reader.specs.Table.{fields, Chain, numbersIn, allIs}
-use Rattle.reader.proofs.Tabled.{chain-sound, wrong, over, read, nil-short, nil-all}
-use Rattle.reader.proofs.Theorems.{question-asks, asks-once}
+use Rattle.reader.specs.Chain.{scanOf, Chain, numbersIn, allNumbers}
+use Rattle.reader.specs.QuestionText.{questionFields}
+use Rattle.reader.proofs.Tabled.{chain-sound}
+use Rattle.reader.proofs.Questions.{wrong-bad, more-bad, all-read, nil-short, nil-all}
+use Rattle.reader.proofs.Theorems.{reading-right, reading-once}
 use Rattle.reader.proofs.read_question.Statement.{statement}
 use Rattle.reader.proofs.read_question.Tie as tie
 
-abbrev textOf : tie.After-line6 → List ℕ
-textOf c = c .before .before .before .before .before .before .before .before .before .before .before .before .before .args .text .now
+-- the readings, one after another
+module _ (c : tie.After-line6) where
+  abbrev far : tie.After-line5
+  far = c .before .before
 
-abbrev scans : tie.After-line6 → List Scan
-scans c =
-    seen (textOf c) (c .before .before .before .before .before .before .before .before .before .before .line .result)
-    ∷ seen (textOf c) (c .before .before .before .before .before .before .before .before .line2 .result)
-    ∷ seen (textOf c) (c .before .before .before .before .before .before .line3 .result)
-    ∷ seen (textOf c) (c .before .before .before .before .line4 .result)
-    ∷ seen (textOf c) (c .before .before .line5 .result)
-    ∷ seen (textOf c) (c .line6 .result)
-    ∷ []
+  abbrev badge : tie.After-line4
+  badge = far .before .before
 
-chain : (c : tie.After-line6) → Chain fields (textOf c) (scans c)
-chain c =
-    let fifth = c .before .before in
-    let fourth = fifth .before .before in
-    let third = fourth .before .before in
-    let second = third .before .before in
-    let first = second .before .before in (
-      first .line .ensures .line,
+  abbrev k : tie.After-line3
+  k = badge .before .before
+
+  abbrev y : tie.After-line2
+  y = k .before .before
+
+  abbrev x : tie.After-line
+  x = y .before .before
+
+  abbrev textOf : List ℕ
+  textOf = x .before .before .before .args .text .now
+
+  abbrev scans : List Scan
+  scans =
+      scanOf textOf (x .line .result)
+      ∷ scanOf textOf (y .line2 .result)
+      ∷ scanOf textOf (k .line3 .result)
+      ∷ scanOf textOf (badge .line4 .result)
+      ∷ scanOf textOf (far .line5 .result)
+      ∷ scanOf textOf (c .line6 .result)
+      ∷ []
+
+  chain : Chain questionFields textOf scans
+  chain = (
+    x .line .ensures .field,
+    (
+      y .line2 .ensures .field,
       (
-        second .line2 .ensures .line,
-        (
-          third .line3 .ensures .line,
-          (fourth .line4 .ensures .line, (fifth .line5 .ensures .line, (c .line6 .ensures .line, tt))),
-        ),
+        k .line3 .ensures .field,
+        (badge .line4 .ensures .field, (far .line5 .ensures .field, (c .line6 .ensures .field, tt))),
       ),
-    )
+    ),
+  )
 
-good : (c : tie.Else2) → allIs (numbersIn (scans (c .before .before .before))) ≡ true
+good : (c : tie.Else2) → allNumbers (numbersIn (scans (c .before .before .before))) ≡ true
 good c = sym (c .before .before .are-numbers .ensures) ∙ not-false _ (c .before .if1 .left)
 
 slice-aggregate-line : tie.Need-slice-aggregate-line
@@ -89,23 +102,24 @@ are-numbers-requires c κs = search needs
 
 returns : tie.Need-returns
 returns c =
-    asks-once _ _ _ (wrong _ _ _ _ _ _ _ (chain (c .before .before)) (sym (c .before .are-numbers .ensures) ∙ not-true _ (c .if1 .taken))) (question-asks _)
+    let read = c .before .before in
+    reading-once _ _ _ (wrong-bad _ (scans read) (chain read) (sym (c .before .are-numbers .ensures) ∙ not-true _ (c .if1 .taken))) (reading-right _)
 
 returns-2 : tie.Need-returns-2
 returns-2 c =
-    let l = c .before .before .before in
-    asks-once _ _ _ (over _ _ _ _ _ _ _ (chain l) (nil-short _ _ (l .line6 .ensures .next) (c .if2 .taken))) (question-asks _)
+    let read = c .before .before .before in
+    reading-once _ _ _ (more-bad _ (scans read) (chain read) (nil-short _ _ (read .line6 .ensures .next) (c .if2 .taken))) (reading-right _)
 
 question-of-requires : tie.Need-question-of-requires
 question-of-requires c κs =
-    let l = c .before .before .before in
-    chain-sound fields (textOf l) (scans l) (chain l) (good c) .1
+    let read = c .before .before .before in
+    chain-sound questionFields (textOf read) (scans read) (chain read) (good c) .1
 
 returns-3 : tie.Need-returns-3
 returns-3 c =
-    let e = c .before in
+    let end = c .before in
     ap Read (c .question-of .ensures)
-    ∙ asks-once _ _ _ (read _ _ _ _ _ _ _ (chain (e .before .before .before)) (good e) (nil-all _ _ (e .if2 .left))) (question-asks _)
+    ∙ reading-once _ _ _ (all-read _ _ _ _ _ _ _ (chain (end .before .before .before)) (good end) (nil-all _ _ (end .if2 .left))) (reading-right _)
 
 pub read-question-spec : {M : Type 1} → statement M
 read-question-spec =

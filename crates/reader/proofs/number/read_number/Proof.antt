@@ -10,10 +10,10 @@ use Rattle.reader.proofs.number.read_number.Statement.{statement}
 use Rattle.reader.proofs.number.read_number.Tie as tie
 
 abbrev Inv-loop : tie.InvT-loop
-Inv-loop text at most least s₀ i₀ s i = (i ≤ length text) × (scan most least s (drop i text) ≡ scan most least s₀ (drop at text))
+Inv-loop text at limits stop s₀ i₀ s i = (i ≤ length text) × (scan limits stop s (drop i text) ≡ scan limits stop s₀ (drop at text))
 
 abbrev μ-loop : tie.MeasureT-loop
-μ-loop text at most least s₀ i₀ s i = length text - i
+μ-loop text at limits stop s₀ i₀ s i = length text - i
 
 loop-holds : tie.Need-loop-holds Inv-loop μ-loop
 loop-holds c = (c .before .pre, refl)

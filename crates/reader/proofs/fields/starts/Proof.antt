@@ -1,12 +1,12 @@
--- `reader::lines::starts` meets its contract: the loop's turns are the bytes of `startsWith`. Assumes nothing.
+-- `reader::fields::starts` meets its contract: the loop's turns are the bytes of `startsWith`. Assumes nothing.
 use mathlib.Core.Path.{_≡_, refl, sym, _∙_}
 use Prim.Native.Nat.{_-_, _≤_}
 use native.Mathlib.Omega.{arith}
 use lib.ListN.{length, drop}
-use Rattle.reader.specs.Line.{startsWith}
+use Rattle.reader.specs.Chain.{startsWith}
 use Rattle.reader.proofs.Keys.{starts-out, starts-on, starts-off, starts-done}
-use Rattle.reader.proofs.lines.starts.Statement.{statement}
-use Rattle.reader.proofs.lines.starts.Tie as tie
+use Rattle.reader.proofs.fields.starts.Statement.{statement}
+use Rattle.reader.proofs.fields.starts.Tie as tie
 
 abbrev Inv-loop : tie.InvT-loop
 Inv-loop text at key i₀ j₀ i j = (i ≤ length text) × (j ≤ length key) × (startsWith (drop j key) (drop i text) ≡ startsWith key (drop at text))
