@@ -76,6 +76,7 @@ module _ (q : Question) (size : ℕ) where
 
 -- what answer 0 says
 pub record Granted (map : List ℕ) (q : Question) (size : ℕ) : Type 0 where
+  pub none : firstGiven (ownTests q size) ≡ 0
   pub own : OwnGood q size
   pub taken : accepted map ≡ true
 
@@ -84,7 +85,7 @@ granted map q size e =
     by-test (eqb (own q size) 0)
     (λ t. let z = eqb-true (own q size) 0 t in
     by-test (accepted map)
-    (λ a. record { own = own-good q size z; taken = a })
+    (λ a. record { none = z; own = own-good q size z; taken = a })
     (λ a. absurd (omega (arith, e, refusal-map q size map z a))))
     (λ t. let ne = eqb-false (own q size) 0 t in absurd (ne (sym (refusal-own q size map ne) ∙ e)))
 

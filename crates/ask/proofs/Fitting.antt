@@ -14,7 +14,7 @@ use Rattle.record.proofs.Bytes.{Small}
 use Rattle.question.specs.declared.Question.{Question}
 use Rattle.nearest.specs.Ground.{Ground}
 use Rattle.nearest.specs.Shown.{distanceTo, page}
-use Rattle.nearest.proofs.Keys.{gap-small}
+use Rattle.nearest.proofs.Measured.{distance-small}
 use Rattle.nearest.proofs.Listed.{page-bay}
 use Rattle.ask.specs.Told.{recordAt, pageOf}
 use Rattle.ask.proofs.Answers.{Granted}
@@ -27,7 +27,7 @@ record-small m p bytes ground j h b =
     record {
       bay = ref-small m (λ i. record { fits = bytes i }) j;
       zone = zone-small m (λ i. record { fits = bytes i }) j;
-      far = omega (arith, gap-small (viewOf m) p ground j h is-filled);
+      far = omega (arith, distance-small (viewOf m) p ground j h is-filled);
     }
 
 pub granted-ground : (m : List ℕ) (q : Question) (size : ℕ) → Granted m q size → Ground (viewOf m) (q .from)

@@ -23,7 +23,7 @@ use Rattle.record.specs.Record.{recordsIn}
 use Rattle.ask.specs.Reply.{accepted, refusal, Reply, replyOf}
 use Rattle.ask.proofs.Replies.{accepted-keeps}
 use Rattle.ask.proofs.Theorems.{table-holds}
-use Rattle.demands.specs.Bays.{visible, SameBays, Alike}
+use Rattle.demands.specs.Visible.{visible, SameBays, Alike}
 use Rattle.demands.specs.Runs.{Call, replyTo, received, joined, nextMark, acceptedIn, cameShort, Turn, asking, pageOn, Asks, Run, waiting, refused, full, short, Pairwise, SameCall, SameTurn}
 use Rattle.demands.specs.Demands.{listOn, Demand1, Demand2, Paging, Demand3}
 use Rattle.demands.proofs.Whole.{whole-in, whole-out, whole-length, whole-strict, from-start, whole-once}

@@ -33,13 +33,13 @@ use Rattle.question.specs.declared.mark.Mark.{Mark}
 use Rattle.question.specs.declared.Question.{Question}
 use Rattle.question.specs.Mark.{before, start}
 use Rattle.question.specs.Badge.{onBadge, badgeOk}
-use Rattle.tree.specs.Bays.{allBays}
+use Rattle.tree.specs.Flat.{allBays}
 use Rattle.nearest.specs.Shown.{shownAt, wholeList, page}
 use Rattle.numbers.specs.Tried.{firstGiven}
 use Rattle.record.specs.Record.{recordSize}
 use Rattle.ask.specs.Told.{pageOf}
 use Rattle.ask.specs.Reply.{countOk, accepted, refusal, Reply, replyOf}
-use Rattle.demands.specs.Bays.{Bay, visible, seenFrom, SameBays, Alike}
+use Rattle.demands.specs.Visible.{Bay, visible, seenFrom, SameBays, Alike}
 use Rattle.demands.specs.Runs.{replyTo, joined, acceptedIn, Turn, asking, pageOn, Run}
 use Rattle.demands.specs.Demands.{listOn}
 use Rattle.demands.specs.Examples.{tallMap, movedMap, lamp, question}

@@ -26,7 +26,7 @@ use Rattle.ask.specs.Told.{recordAt, markOf, pageOf}
 use Rattle.record.specs.Record.{recordsIn}
 use Rattle.ask.specs.Reply.{accepted, refusal, Reply, refused, answered, replyOf}
 use Rattle.ask.proofs.Answers.{Granted, granted, reply-page, reply-refused, number-is}
-use Rattle.demands.specs.Bays.{SameBays, Alike}
+use Rattle.demands.specs.Visible.{SameBays, Alike}
 use Rattle.demands.specs.Runs.{Call, replyTo, received, nextMark, Asks}
 use Rattle.demands.specs.Demands.{listOn, earlier}
 use Rattle.record.proofs.Reading.{room-read}

@@ -18,7 +18,7 @@ use Rattle.rules.specs.Form.{formOk}
 use Rattle.rules.specs.declared.Verdict.the-variants.{BadHeader, Broken}
 use Rattle.rules.specs.declared.Rule.the-variants.{Form}
 use Rattle.rules.specs.Verdicts.{numberOf, firstBroken, verdictOf}
-use Rattle.tree.specs.Bays.{allBays}
+use Rattle.tree.specs.Flat.{allBays}
 use Rattle.tree.specs.Examples.{header, node, blanks, exampleMap}
 use Rattle.order.specs.Order.{place, sortOnto, only, gather}
 use Rattle.record.specs.declared.Record.{Record}
@@ -30,7 +30,7 @@ use Rattle.nearest.specs.Shown.{shownAt, wholeList, page}
 use Rattle.ask.specs.Told.{pageOf}
 use Rattle.ask.specs.Reply.{accepted, refusal, Reply, replyOf}
 use Rattle.ask.proofs.Answers.{number-is}
-use Rattle.demands.specs.Bays.{seenFrom, Alike}
+use Rattle.demands.specs.Visible.{seenFrom, Alike}
 use Rattle.demands.specs.Runs.{Call, replyTo, received, joined, nextMark, asking, Asks, Run, full, short}
 use Rattle.demands.specs.Demands.{listOn, Demand1, Demand2, Demand3}
 use Rattle.demands.specs.Examples.{movedMap, lamp, question}

@@ -11,7 +11,7 @@ use Rattle.measure.specs.declared.Point.{Point}
 use Rattle.floor.specs.View.{View, viewOf, leaf, bay, filled}
 use Rattle.rules.specs.declared.Rule.the-variants.{Bays}
 use Rattle.rules.specs.Verdicts.{Keeps}
-use Rattle.tree.specs.Bays.{allBays}
+use Rattle.tree.specs.Flat.{allBays}
 use Rattle.tree.proofs.Tree.{keeps-treelike, entry, bays-apart}
 use Rattle.tree.proofs.Spanning.{flat-once, flat-bays}
 use Rattle.order.specs.Order.{only, sort, Strict, Distinct, Once}
@@ -30,7 +30,7 @@ use Rattle.nearest.proofs.Listed.{whole-bay}
 use Rattle.ask.specs.Told.{recordAt, markOf}
 use Rattle.ask.specs.Reply.{accepted}
 use Rattle.ask.proofs.Replies.{accepted-keeps}
-use Rattle.demands.specs.Bays.{Bay, bayOf, visible, seenFrom, SameBays}
+use Rattle.demands.specs.Visible.{Bay, bayOf, visible, seenFrom, SameBays}
 use Rattle.demands.specs.Demands.{listOn, earlier, numbersOf}
 
 module _ (m : List ℕ) (badge : ℕ) (point : Point) where

@@ -21,7 +21,7 @@ use Rattle.nearest.specs.Shown.{distanceTo, wholeList}
 use Rattle.ask.specs.Told.{recordAt, markOf, pageOf}
 use Rattle.ask.specs.Reply.{accepted, refusal, refused, answered}
 use Rattle.ask.specs.Table.{Table}
-use Rattle.demands.specs.Bays.{Bay, visible, seenFrom, SameBays, Alike}
+use Rattle.demands.specs.Visible.{Bay, visible, seenFrom, SameBays, Alike}
 use Rattle.demands.specs.Runs.{Replying, Call, replyTo, received, joined, nextMark, acceptedIn, Turn, asking, pageOn, Run, Pairwise, SameCall, SameTurn}
 
 -- the badge's whole list from a point, on the map's bytes, as it is told

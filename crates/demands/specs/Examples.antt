@@ -5,13 +5,13 @@ use Prim.Native.Nat.{ℕ}
 use lib.IntN.{pos}
 use Rattle.measure.specs.declared.Point.{Point}
 use Rattle.measure.specs.declared.Span.{Span}
-use Rattle.tree.specs.Examples.{header, node, from, bayIn, blanks}
+use Rattle.tree.specs.Examples.{header, node, from, baySlot, blanks}
 use Rattle.question.specs.declared.mark.Mark.{Mark}
 use Rattle.question.specs.declared.Question.{Question}
 
 -- a slot above the leaves: x, y, and the node that it names
 abbrev pub linkTo : Span → Span → ℕ → List ℕ
-linkTo x y n = bayIn x y n 0
+linkTo x y n = baySlot x y n 0
 
 -- height 2: bays 4 and 7 of zone 3 lie in two leaves, with four others of zone 5
 abbrev pub tallMap : List ℕ
@@ -22,14 +22,14 @@ tallMap =
     ++ linkTo (from 10 31) (from 0 9) 2
     ++ blanks 6
     ++ node 0 7
-    ++ bayIn (from 0 2) (from 0 2) 4 3
-    ++ bayIn (from 1 1) (from 3 4) 22 5
-    ++ bayIn (from 5 5) (from 5 6) 23 5
+    ++ baySlot (from 0 2) (from 0 2) 4 3
+    ++ baySlot (from 1 1) (from 3 4) 22 5
+    ++ baySlot (from 5 5) (from 5 6) 23 5
     ++ blanks 5
     ++ node 0 7
-    ++ bayIn (from 30 31) (from 1 2) 20 5
-    ++ bayIn (from 10 20) (from 0 5) 7 3
-    ++ bayIn (from 12 13) (from 8 9) 21 5
+    ++ baySlot (from 30 31) (from 1 2) 20 5
+    ++ baySlot (from 10 20) (from 0 5) 7 3
+    ++ baySlot (from 12 13) (from 8 9) 21 5
     ++ blanks 5
 
 -- the example map with bay 4 moved to a zone that badge 8 does not see
@@ -37,9 +37,9 @@ abbrev pub movedMap : List ℕ
 movedMap =
     header 1 0 1
     ++ node 0 7
-    ++ bayIn (from 10 20) (from 0 5) 7 3
-    ++ bayIn (from 0 2) (from 0 2) 4 5
-    ++ bayIn (from 5 6) (from 5 6) 9 5
+    ++ baySlot (from 10 20) (from 0 5) 7 3
+    ++ baySlot (from 0 2) (from 0 2) 4 5
+    ++ baySlot (from 5 6) (from 5 6) 9 5
     ++ blanks 5
 
 -- document 01's question, and a page of two

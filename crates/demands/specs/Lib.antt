@@ -1,5 +1,5 @@
--- The three demands: read Demands, then Runs and Bays. Wrong has ways of replying that fail them.
-pub mod Bays
+-- The three demands: read Demands, then Runs and Visible. Wrong has ways of replying that fail them.
+pub mod Visible
 pub mod Runs
 pub mod Demands
 pub mod Examples

@@ -13,7 +13,7 @@ use Rattle.question.specs.declared.Question.{Question}
 use Rattle.record.specs.Record.{recordsIn}
 use Rattle.ask.specs.Told.{markOf}
 use Rattle.ask.specs.Reply.{Reply}
-use Rattle.demands.specs.Bays.{SameBays, Alike}
+use Rattle.demands.specs.Visible.{SameBays, Alike}
 
 -- one call: the map that stands in, the question, and the room's bytes before
 pub record Call : Type 0 where

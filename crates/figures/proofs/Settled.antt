@@ -9,7 +9,7 @@ use lib.Dec.{T, eqb, leb, ltb, eqb→eq, leb→le, ltb→lt}
 use mir.Facts.{and-yes}
 use Rattle.measure.specs.Axis.{inRange, pointIn, spanIn, squareOf, nearestOn, lowIsNear, lowIsFar}
 use Rattle.measure.specs.Axes.{minDist, minMaxDist}
-use Rattle.measure.specs.Answer.{axesOf, Reply, reply, measuredBy}
+use Rattle.measure.specs.Answer.{axesOf, Reading, reading, measuredBy}
 use Rattle.words.specs.Words.{leAt, leBytes}
 use Rattle.floor.specs.Written.{slotBytes, slotsBytes}
 use Rattle.floor.specs.View.{viewOf, filled}
@@ -24,7 +24,7 @@ use Rattle.rules.specs.Verdicts.{firstBroken, verdictOf}
 use Rattle.order.specs.Order.{place, sortOnto, only, gather}
 use Rattle.question.specs.Badge.{allZones, zoneLimit, onBadge, badgeOk}
 use Rattle.numbers.specs.Tried.{firstGiven}
-use Rattle.tree.specs.Bays.{allBays}
+use Rattle.tree.specs.Flat.{allBays}
 use Rattle.question.specs.Mark.{before}
 use Rattle.nearest.specs.Shown.{shownAt, wholeList, page}
 use Rattle.record.specs.Record.{recordSize}
@@ -33,10 +33,10 @@ use Rattle.ask.specs.Reply.{refusal}
 use Rattle.figures.specs.Figures.{Claim, measures, asks, zones, plain, seen, Holds, Figure, table, AllHold}
 
 -- the tests, and what each shows
-abbrev answers : Reply → ℕ → Bool
+abbrev answers : Reading → ℕ → Bool
 answers r v = eqb (r .number) 0 && eqb (r .value) v
 
-answers-sound : (r : Reply) (v : ℕ) → T (answers r v) → r ≡ reply 0 v
+answers-sound : (r : Reading) (v : ℕ) → T (answers r v) → r ≡ reading 0 v
 answers-sound r v t =
     let h = and-yes (eqb (r .number) 0) (eqb (r .value) v) t in
     λ i. record { number = eqb→eq (r .number) 0 (h .0) i; value = eqb→eq (r .value) v (h .1) i }

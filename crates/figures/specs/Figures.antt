@@ -8,7 +8,7 @@ use lib.IntN.{ℤ, pos, negℤ}
 use Rattle.measure.specs.declared.Point.{Point}
 use Rattle.measure.specs.declared.Bounds.{Bounds}
 use Rattle.measure.specs.Axes.{minDist, minMaxDist}
-use Rattle.measure.specs.Answer.{axesOf, measuredBy, reply}
+use Rattle.measure.specs.Answer.{axesOf, measuredBy, reading}
 use Rattle.measure.specs.Root.{RootOf}
 use Rattle.tree.specs.Examples.{emptyMap, exampleMap}
 use Rattle.record.specs.declared.Record.{Record}
@@ -34,7 +34,7 @@ seen e = (e .bay, e .far .0)
 
 abbrev pub Holds : Claim → Type 0
 Holds (measures p b least promised) =
-    (measuredBy minDist (axesOf p b) ≡ reply 0 least) × (measuredBy minMaxDist (axesOf p b) ≡ reply 0 promised)
+    (measuredBy minDist (axesOf p b) ≡ reading 0 least) × (measuredBy minMaxDist (axesOf p b) ≡ reading 0 promised)
 Holds (asks m q n found) = (refusal m q (recordSize * q .k) ≡ n) × (map seen (pageOf m q) ≡ found)
 Holds (zones n t) = badgeOk (2 ^ n - 1) ≡ t
 Holds (plain d r) = RootOf d r

@@ -17,8 +17,8 @@ use Rattle.measure.specs.declared.Span.{Span}
 use Rattle.measure.proofs.Range.{Ends}
 use Rattle.floor.specs.declared.Slot.{Slot}
 use Rattle.floor.specs.Layout.{axisCount, headSize, nodeSize, slotSize, spanFrom, refFrom, zoneFrom, zerosFrom}
-use Rattle.floor.specs.View.{spanAt, slotSpan}
-use Rattle.floor.specs.Written.{spanOn, spanBytes, spansBytes, slotBytes, headBytes, blank, Whole, slotsBytes, nodeBytes, headerBytes}
+use Rattle.floor.specs.View.{spanAt, slotSpan, spanOn}
+use Rattle.floor.specs.Written.{spanBytes, spansBytes, slotBytes, headBytes, blank, Whole, slotsBytes, nodeBytes, headerBytes}
 use Rattle.floor.proofs.Fields.{headerFrom, headFrom, slotFrom, Agree}
 
 -- what fits the bytes of a slot, of a node, and of a header

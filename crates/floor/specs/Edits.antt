@@ -6,8 +6,8 @@ use lib.Dec.{eqb}
 use lib.ListN.{getD}
 use Rattle.floor.specs.declared.Slot.{Slot}
 use Rattle.floor.specs.Layout.{mapSize}
-use Rattle.floor.specs.View.{View, slotOf}
-use Rattle.floor.specs.Written.{Whole, blank, spanOn}
+use Rattle.floor.specs.View.{View, slotOf, spanOn}
+use Rattle.floor.specs.Written.{Whole, blank}
 
 abbrev pub slotIn : Whole → ℕ → Slot
 slotIn h j = getD (h .slots) (j % 8) blank

@@ -10,11 +10,7 @@ use Rattle.measure.specs.declared.Bounds.{Bounds}
 use Rattle.measure.specs.declared.Span.{Span}
 use Rattle.floor.specs.declared.Slot.{Slot}
 use Rattle.floor.specs.Layout.{axisCount, slotSize, nodeSize, nodeAt, slotAt}
-
--- the span of a box on an axis
-abbrev pub spanOn : Bounds → ℕ → Span
-spanOn b zero = b .x
-spanOn b (suc a) = b .y
+use Rattle.floor.specs.View.{spanOn}
 
 -- low, then high; and so for the first axes
 abbrev pub spanBytes : Span → List ℕ

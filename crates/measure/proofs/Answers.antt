@@ -7,18 +7,18 @@ use Rattle.numbers.proofs.Tests.{both, and-true}
 use Rattle.measure.specs.declared.Axis.{Axis}
 use Rattle.measure.specs.Axis.{pointIn, boxIn, Ready}
 use Rattle.measure.specs.Axes.{every, Each}
-use Rattle.measure.specs.Answer.{reply, measuredBy}
+use Rattle.measure.specs.Answer.{reading, measuredBy}
 
 module _ (f : List Axis → ℕ) (axes : List Axis) where
-  pub measured-1 : every pointIn axes ≡ false → measuredBy f axes ≡ reply 1 0
+  pub measured-1 : every pointIn axes ≡ false → measuredBy f axes ≡ reading 1 0
   unfolding measuredBy
   measured-1 h = simp h
 
-  pub measured-2 : every pointIn axes ≡ true → every boxIn axes ≡ false → measuredBy f axes ≡ reply 2 0
+  pub measured-2 : every pointIn axes ≡ true → every boxIn axes ≡ false → measuredBy f axes ≡ reading 2 0
   unfolding measuredBy
   measured-2 h k = simp (h, k)
 
-  pub measured-0 : every pointIn axes ≡ true → every boxIn axes ≡ true → measuredBy f axes ≡ reply 0 (f axes)
+  pub measured-0 : every pointIn axes ≡ true → every boxIn axes ≡ true → measuredBy f axes ≡ reading 0 (f axes)
   unfolding measuredBy
   measured-0 h k = simp (h, k)
 

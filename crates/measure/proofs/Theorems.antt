@@ -18,7 +18,7 @@ use Rattle.measure.specs.declared.Measured.{Measured}
 use Rattle.measure.specs.declared.Measured.the-variants.{Found, PointOutside, BoxOutside}
 use Rattle.measure.specs.Axis.{pointIn, boxIn, squareOf, nearestOn, lowIsNear, lowIsFar, minSq, nearSq, farSq, Ready}
 use Rattle.measure.specs.Axes.{every, Each, sumOver, faceSums, least, minDist, minMaxDist}
-use Rattle.measure.specs.Answer.{Reply, replyOf, measuredBy}
+use Rattle.measure.specs.Answer.{Reading, readingOf, measuredBy}
 use Rattle.measure.specs.Root.{RootOf}
 use Rattle.measure.specs.Within.{Within, AllWithin, none, more}
 use Rattle.measure.proofs.Range.{most, min-small, ordered}
@@ -99,16 +99,16 @@ mindist-small (a ∷ axes) h = omega (arith, min-small (h .0), mindist-small axe
 -- ---- any two answers that meet a contract coincide
 
 -- the answer with a given number and value
-answerOf : Reply → Measured
+answerOf : Reading → Measured
 answerOf r = cond (eqb (r .number) 0) (Found (record { 0 = r .value })) (cond (eqb (r .number) 1) PointOutside BoxOutside)
 
-answer-back : (m : Measured) → answerOf (replyOf m) ≡ m
+answer-back : (m : Measured) → answerOf (readingOf m) ≡ m
 unfolding answerOf
 answer-back (Found d) = refl
 answer-back PointOutside = refl
 answer-back BoxOutside = refl
 
-pub answer-unique : (m n : Measured) → replyOf m ≡ replyOf n → m ≡ n
+pub answer-unique : (m n : Measured) → readingOf m ≡ readingOf n → m ≡ n
 answer-unique m n h = sym (answer-back m) ∙ ap answerOf h ∙ answer-back n
 
 pub root-unique : (d : ℕ) (r s : Mm) → RootOf d (r .0) → RootOf d (s .0) → r ≡ s

@@ -6,10 +6,10 @@ use Prim.Native.Nat.{ℕ, _+_, min}
 use Rattle.measure.specs.declared.Axis.{Axis}
 use Rattle.measure.specs.Axis.{minSq, nearSq, farSq}
 
--- a test of every axis
-abbrev pub every : (Axis → Bool) → List Axis → Bool
+-- a test of every element of a list
+abbrev pub every : {A : Type 0} → (A → Bool) → List A → Bool
 every f [] = true
-every f (a ∷ axes) = f a && every f axes
+every f (x ∷ xs) = f x && every f xs
 
 -- what holds of every axis
 abbrev pub Each : (Axis → Type 0) → List Axis → Type 0

@@ -4,7 +4,7 @@ ghost use mathlib.Core.List.{List, [], _∷_};
 ghost use Prim.Native.Nat.{_+_, _^_, _<_, min};
 ghost use Rattle.measure.specs.Axis.{Ready};
 ghost use Rattle.measure.specs.Axes.{Each, minDist, minMaxDist};
-ghost use Rattle.measure.specs.Answer.{measuredBy, measureOf, replyOf};
+ghost use Rattle.measure.specs.Answer.{measuredBy, measureOf, readingOf};
 use crate::Axis;
 use crate::Measured;
 use crate::SquaredMm;
@@ -49,7 +49,7 @@ fn min_max_over(x: Axis, y: Axis) -> SquaredMm
 
 // The refusals before the measure: the point's on any axis, then the box's on any axis.
 pub fn judged(kind: Kind, x: Axis, y: Axis) -> Measured
-    ensures { λ r. ⌜ replyOf r ≡ measuredBy (measureOf kind) (x ∷ y ∷ []) ⌝ }
+    ensures { λ r. ⌜ readingOf r ≡ measuredBy (measureOf kind) (x ∷ y ∷ []) ⌝ }
 {
     let point = x.point_in() & y.point_in();
     let bounds = x.box_in() & y.box_in();

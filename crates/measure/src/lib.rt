@@ -9,7 +9,7 @@ pub use root::plain;
 ghost use mathlib.Core.Path.{_≡_};
 ghost use Rattle.measure.specs.Axes.{Each, minDist, minMaxDist};
 ghost use Rattle.measure.specs.Axis.{Ready};
-ghost use Rattle.measure.specs.Answer.{onX, onY, axesOf, measureOf, measuredBy, replyOf};
+ghost use Rattle.measure.specs.Answer.{axesOf, measureOf, measuredBy, readingOf};
 use all_axes::Kind;
 use all_axes::judged;
 use all_axes::min_over;
@@ -62,7 +62,7 @@ pub struct Axis {
     pub span: Span,
 }
 
-// What a measure of a point and a box answers: `replyOf` gives document 01's number and value for each case.
+// What a measure of a point and a box answers: `readingOf` gives document 01's number and value for each case.
 pub enum Measured {
     Found(SquaredMm),
     PointOutside,
@@ -72,7 +72,7 @@ pub enum Measured {
 impl Measured {
     // Document 01's answer number.
     pub fn number(self) -> u32
-        ensures { λ r. ⌜ r ≡ replyOf self .number ⌝ }
+        ensures { λ r. ⌜ r ≡ readingOf self .number ⌝ }
     {
         match self {
             Measured::Found(_) => 0,
@@ -83,7 +83,7 @@ impl Measured {
 
     // Document 01's value: 0 where the measure is refused.
     pub fn value(self) -> SquaredMm
-        ensures { λ r. ⌜ r .0 ≡ replyOf self .value ⌝ }
+        ensures { λ r. ⌜ r .0 ≡ readingOf self .value ⌝ }
     {
         match self {
             Measured::Found(d) => d,
@@ -95,14 +95,14 @@ impl Measured {
 
 // MINDIST, or the refusal.
 pub fn mindist(p: Point, b: Bounds) -> Measured
-    ensures { λ r. ⌜ replyOf r ≡ measuredBy minDist (axesOf p b) ⌝ }
+    ensures { λ r. ⌜ readingOf r ≡ measuredBy minDist (axesOf p b) ⌝ }
 {
     answered(Kind::Min, p, b)
 }
 
 // MINMAXDIST, or the refusal.
 pub fn minmaxdist(p: Point, b: Bounds) -> Measured
-    ensures { λ r. ⌜ replyOf r ≡ measuredBy minMaxDist (axesOf p b) ⌝ }
+    ensures { λ r. ⌜ readingOf r ≡ measuredBy minMaxDist (axesOf p b) ⌝ }
 {
     answered(Kind::MinMax, p, b)
 }
@@ -117,20 +117,20 @@ pub fn squared_gap(p: Point, b: Bounds) -> SquaredMm
 
 // Who makes the list of axes.
 fn answered(kind: Kind, p: Point, b: Bounds) -> Measured
-    ensures { λ r. ⌜ replyOf r ≡ measuredBy (measureOf kind) (axesOf p b) ⌝ }
+    ensures { λ r. ⌜ readingOf r ≡ measuredBy (measureOf kind) (axesOf p b) ⌝ }
 {
     judged(kind, on_x(p, b), on_y(p, b))
 }
 
 fn on_x(p: Point, b: Bounds) -> Axis
-    ensures { λ r. ⌜ r ≡ onX p b ⌝ }
+    ensures { λ r. ⌜ r ≡ record { at = p .x; span = b .x } ⌝ }
 {
     let span = b.x;
     Axis { at: p.x, span }
 }
 
 fn on_y(p: Point, b: Bounds) -> Axis
-    ensures { λ r. ⌜ r ≡ onY p b ⌝ }
+    ensures { λ r. ⌜ r ≡ record { at = p .y; span = b .y } ⌝ }
 {
     let span = b.y;
     Axis { at: p.y, span }

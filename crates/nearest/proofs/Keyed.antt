@@ -9,7 +9,7 @@ use Rattle.numbers.proofs.Tests.{both}
 use Rattle.floor.specs.View.{View, filled, leaf, bay, link}
 use Rattle.rules.specs.declared.Rule.the-variants.{Bays}
 use Rattle.rules.specs.Verdicts.{Keeps}
-use Rattle.tree.specs.Below.{Under, slotBays, partBays, nodeBays}
+use Rattle.tree.specs.Under.{Under, slotBays, partBays, nodeBays}
 use Rattle.rules.proofs.Verdicts.{shaped}
 use Rattle.tree.specs.Treelike.{Treelike}
 use Rattle.tree.proofs.Tree.{keeps-treelike, link-leads, bays-apart}
@@ -24,11 +24,8 @@ use Rattle.nearest.specs.Shown.{markAt}
 use Rattle.nearest.specs.Asked.{wantedBy}
 use Rattle.nearest.specs.Best.{keyOf, farIn, sooner}
 use Rattle.nearest.specs.Searched.{wantedKeys}
+use Rattle.nearest.proofs.Measured.{Grows}
 use Rattle.nearest.proofs.Keys.{far-back, mark-back}
-
--- what a search may rest on: nothing below a slot is nearer than the slot
-abbrev pub Grows : View → (ℕ → ℕ) → Type 0
-Grows v distance = (j k : ℕ) → j < 8 * v .count → k < 8 * v .count → link v j ≡ true → filled v k ≡ true → Under v (v .ref j) k → distance j ≤ distance k
 
 -- the slot of a bay of the map
 abbrev pub BaySlot : View → ℕ → Type 0

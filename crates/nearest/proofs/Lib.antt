@@ -1,6 +1,5 @@
 -- The laws that the search leans on.
-pub mod Prune
-pub mod Ready
+pub mod Measured
 pub mod Keys
 pub mod Keyed
 pub mod Page

@@ -4,7 +4,7 @@ use mathlib.Core.Path.{_≡_}
 use mathlib.Core.Bool.{true}
 use mathlib.Core.List.{List, List·Memᴰ}
 use Rattle.floor.specs.View.{View, bay}
-use Rattle.tree.specs.Bays.{allBays}
+use Rattle.tree.specs.Flat.{allBays}
 use Rattle.tree.proofs.Spanning.{flat-bays}
 use Rattle.order.specs.Order.{only, sort}
 use Rattle.order.proofs.Only.{only-out}

@@ -4,12 +4,11 @@ use mathlib.Core.Path.{_≡_, refl, ap, _∙_}
 use mathlib.Core.List.{List, [], map, List·Memᴰ, List·Memᴰ·not-nil}
 use Rattle.floor.specs.View.{View}
 use Rattle.rules.specs.Verdicts.{Keeps}
-use Rattle.tree.specs.Bays.{allBays}
-use Rattle.tree.specs.Below.{nodeBays}
+use Rattle.tree.specs.Flat.{allBays}
+use Rattle.tree.specs.Under.{nodeBays}
 use Rattle.tree.specs.Treelike.{Treelike}
 use Rattle.tree.proofs.Tree.{keeps-treelike}
 use Rattle.tree.proofs.Spanning.{from-node, node-once, flat-once, flat-bays, spanning}
-use Rattle.measure.specs.declared.Point.{Point}
 use Rattle.order.specs.Order.{keepAll, only}
 use Rattle.order.proofs.Only.{only-out, only-both}
 use Rattle.order.proofs.Sorting.{only-keep}
@@ -18,17 +17,12 @@ use Rattle.order.proofs.Mapped.{by-order, keep-agree}
 use Rattle.question.specs.declared.Question.{Question}
 use Rattle.question.specs.Mark.{before}
 use Rattle.question.proofs.Before.{in-order}
-use Rattle.nearest.specs.Shown.{markAt, earlier, distanceTo, shownAt, afterMark, wholeList, page}
+use Rattle.nearest.specs.Shown.{markAt, earlier, shownAt, afterMark, wholeList, page}
 use Rattle.nearest.specs.Asked.{wantedBy}
 use Rattle.nearest.specs.Best.{keyOf, sooner}
 use Rattle.nearest.specs.Searched.{wantedKeys}
 use Rattle.nearest.proofs.Keys.{sooner-is, sooner-order}
-use Rattle.nearest.proofs.Keyed.{Grows, BaySlot, slot-low, keys-same, keys-distinct}
-use Rattle.nearest.proofs.Prune.{box-more}
-
--- MINDIST never falls when a box shrinks
-pub mindist-grows : (v : View) → Keeps v → (p : Point) → Grows v (distanceTo v p)
-mindist-grows v keeps p = box-more v keeps p
+use Rattle.nearest.proofs.Keyed.{BaySlot, slot-low, keys-same, keys-distinct}
 
 module _ (v : View) (keeps : Keeps v) (distance : ℕ → ℕ) (q : Question) where
   abbrev pageSlots : List ℕ

@@ -12,7 +12,7 @@ use Rattle.numbers.proofs.Tests.{both}
 use Rattle.floor.specs.View.{View, filled}
 use Rattle.order.specs.Order.{place}
 use Rattle.order.proofs.Place.{by-test}
-use Rattle.tree.specs.Below.{slotBays, partBays}
+use Rattle.tree.specs.Under.{slotBays, partBays}
 use Rattle.question.specs.declared.Question.{Question}
 use Rattle.nearest.specs.declared.best.Best.{Best}
 use Rattle.nearest.specs.Asked.{wantedBy}

@@ -18,7 +18,7 @@ use Rattle.floor.specs.View.{View, filled}
 use Rattle.rules.specs.Verdicts.{Keeps}
 use Rattle.tree.specs.Treelike.{Treelike}
 use Rattle.tree.proofs.Tree.{link-leads}
-use Rattle.tree.specs.Below.{slotBays, partBays, nodeBays}
+use Rattle.tree.specs.Under.{slotBays, partBays, nodeBays}
 use Rattle.tree.proofs.Spanning.{slot-link, fallen}
 use Rattle.order.specs.Order.{Cross, keepAll, gather}
 use Rattle.order.proofs.Place.{by-test}
@@ -32,7 +32,8 @@ use Rattle.nearest.specs.Best.{farIn, markIn, sooner, keysOf, worstOf, C
 use Rattle.nearest.specs.Reach.{none, beyond, gapOf, Reach, opened}
 use Rattle.nearest.specs.Searched.{Kept, wantedKeys, Searched}
 use Rattle.nearest.proofs.Keys.{sooner-order}
-use Rattle.nearest.proofs.Keyed.{Grows, partKeys, keys-cross, keys-far}
+use Rattle.nearest.proofs.Measured.{Grows}
+use Rattle.nearest.proofs.Keyed.{keys-cross, keys-far}
 use Rattle.nearest.proofs.Searching.{keys-nil, keys-append}
 
 -- what marks a slot as visited

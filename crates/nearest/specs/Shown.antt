@@ -8,7 +8,7 @@ use Rattle.measure.specs.declared.Point.{Point}
 use Rattle.measure.specs.Axes.{minDist}
 use Rattle.measure.specs.Answer.{axesOf}
 use Rattle.floor.specs.View.{View, boundsOf}
-use Rattle.tree.specs.Bays.{allBays}
+use Rattle.tree.specs.Flat.{allBays}
 use Rattle.order.specs.Order.{only, sort}
 use Rattle.question.specs.declared.mark.Mark.{Mark}
 use Rattle.question.specs.Badge.{onBadge}

@@ -3,7 +3,7 @@ ghost use mathlib.Core.Path.{_≡_};
 ghost use mathlib.Core.Bool.{true};
 ghost use Prim.Native.Nat.{_*_, _<_};
 ghost use Rattle.floor.specs.View.{viewOf, filled};
-ghost use Rattle.tree.specs.Below.{nodeBays};
+ghost use Rattle.tree.specs.Under.{nodeBays};
 ghost use Rattle.nearest.specs.Shown.{distanceTo};
 ghost use Rattle.nearest.specs.Best.{slotIn, listing, Carried};
 ghost use Rattle.nearest.specs.Ground.{Ground};

@@ -2,7 +2,7 @@
 ghost use mathlib.Core.Path.{_≡_};
 ghost use Prim.Native.Nat.{_<_, _≤_};
 ghost use Rattle.floor.specs.View.{viewOf};
-ghost use Rattle.tree.specs.Below.{nodeBays};
+ghost use Rattle.tree.specs.Under.{nodeBays};
 ghost use Rattle.nearest.specs.Shown.{distanceTo};
 ghost use Rattle.nearest.specs.Best.{noBays, Carried};
 ghost use Rattle.nearest.specs.Ground.{Ground};

@@ -1,6 +1,6 @@
 -- The laws of tests over the numbers below a bound. Assumes nothing.
 use mathlib.Core.Path.{_≡_, refl, sym, ap, _∙_}
-use mathlib.Core.Bool.{Bool, true, false, cond, _&&_, _||_, true≢false, false≢true}
+use mathlib.Core.Bool.{Bool, true, false, cond, _&&_, true≢false, false≢true}
 use mathlib.Core.Logic.{_⊎_, inl, inr, ⊎-elim}
 use Prim.Native.Nat.{ℕ, zero, suc, _+_, _<_, _≤_}
 use native.Mathlib.Numerals.{add-one}
@@ -8,7 +8,7 @@ use native.Mathlib.Omega.{arith}
 use lib.Dec.{ltb}
 use borrow.Author.Count.{below-more}
 use borrow.Author.Tests.{ltb-true, ltb-false}
-use Rattle.numbers.specs.Below.{allBelow, anyBelow, one, countBelow, firstFail}
+use Rattle.numbers.specs.Below.{allBelow, one, countBelow, firstFail}
 use Rattle.numbers.proofs.Tests.{both}
 
 pub ordered : (a b : ℕ) → (a < b) ⊎ ((a ≡ b) ⊎ (b < a))
@@ -17,6 +17,9 @@ ordered zero (suc b) = inl (omega arith)
 ordered (suc a) zero = inr (inr (omega arith))
 ordered (suc a) (suc b) =
     ⊎-elim (λ h. inl (omega arith)) (⊎-elim (λ h. inr (inl (ap suc h))) (λ h. inr (inr (omega arith)))) (ordered a b)
+
+pub le-cases : (a b : ℕ) → (a ≤ b) ⊎ (b < a)
+le-cases a b = ⊎-elim (λ h. inl (omega arith)) (⊎-elim (λ h. inl (omega arith)) inr) (ordered a b)
 
 -- below n + 1 is below n, or n
 last : (P : ℕ → Type 0) (n k : ℕ) → k < suc n → (k < n → P k) → P n → P k
@@ -38,9 +41,6 @@ module _ (p : ℕ → Bool) where
 
   pub all-end : (i n : ℕ) {ok : Bool} → ok ≡ allBelow p i → i ≡ n → ok ≡ allBelow p n
   all-end i n d e = d ∙ ap (allBelow p) e
-
-  pub any-more : (i : ℕ) → anyBelow p (i + 1) ≡ (anyBelow p i || p i)
-  any-more i = rw add-one
 
   pub count-more : (i : ℕ) → countBelow p (i + 1) ≡ countBelow p i + one (p i)
   count-more i = rw add-one

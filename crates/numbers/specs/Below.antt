@@ -1,5 +1,5 @@
--- Tests over the numbers below a bound: all, some, how many pass, and the first that fails.
-use mathlib.Core.Bool.{Bool, true, false, cond, _&&_, _||_}
+-- Tests over the numbers below a bound: all, how many pass, and the first that fails.
+use mathlib.Core.Bool.{Bool, true, cond, _&&_}
 use Prim.Native.Nat.{ℕ, zero, suc, _+_}
 use lib.Dec.{ltb}
 
@@ -7,11 +7,6 @@ use lib.Dec.{ltb}
 abbrev pub allBelow : (ℕ → Bool) → ℕ → Bool
 allBelow p zero = true
 allBelow p (suc n) = allBelow p n && p n
-
--- some number below n passes
-abbrev pub anyBelow : (ℕ → Bool) → ℕ → Bool
-anyBelow p zero = false
-anyBelow p (suc n) = anyBelow p n || p n
 
 -- how many numbers below n pass
 abbrev pub one : Bool → ℕ

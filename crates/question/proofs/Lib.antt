@@ -1,2 +1,3 @@
--- The laws of the order of bays.
+-- The laws of the order of bays, and of who may ask.
+pub mod Badges
 pub mod Before

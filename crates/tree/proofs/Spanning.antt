@@ -13,8 +13,8 @@ use Rattle.order.proofs.Place.{by-test}
 use Rattle.order.proofs.Only.{chosen-out, gather-each}
 use Rattle.order.proofs.Parts.{gather-in, gather-once}
 use Rattle.tree.specs.Treelike.{Treelike}
-use Rattle.tree.specs.Bays.{bayIn, allBays}
-use Rattle.tree.specs.Below.{Under, here, down, slotBays, partBays, nodeBays}
+use Rattle.tree.specs.Flat.{bayIn, allBays}
+use Rattle.tree.specs.Under.{Under, here, down, slotBays, partBays, nodeBays}
 use Rattle.tree.proofs.Tree.{link-leads, link-falls, covered, siblings-apart}
 
 module _ (v : View) where

@@ -26,7 +26,7 @@ use Rattle.rules.proofs.Linked.{link-filled}
 use Rattle.rules.proofs.Hull.{far-through, hull-holds}
 use Rattle.rules.proofs.Verdicts.{form-links}
 use Rattle.tree.specs.Treelike.{Treelike}
-use Rattle.tree.specs.Below.{Under, here, down, InBox}
+use Rattle.tree.specs.Under.{Under, here, down, InBox}
 
 pub keeps-treelike : {v : View} → Keeps v → Treelike v
 keeps-treelike k =

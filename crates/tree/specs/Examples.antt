@@ -20,8 +20,8 @@ abbrev pub from : ℕ → ℕ → Span
 from low high = record { low = pos low; high = pos high }
 
 -- a filled slot of a leaf: x, y, its bay and its zone
-abbrev pub bayIn : Span → Span → ℕ → ℕ → List ℕ
-bayIn x y bay zone = slotBytes (record { bounds = record { x = x; y = y }; reference = bay; zone = zone; clear = true })
+abbrev pub baySlot : Span → Span → ℕ → ℕ → List ℕ
+baySlot x y bay zone = slotBytes (record { bounds = record { x = x; y = y }; reference = bay; zone = zone; clear = true })
 
 -- n slots that are not filled
 abbrev pub blanks : ℕ → List ℕ
@@ -36,7 +36,7 @@ abbrev pub exampleMap : List ℕ
 exampleMap =
     header 1 0 1
     ++ node 0 7
-    ++ bayIn (from 10 20) (from 0 5) 7 3
-    ++ bayIn (from 0 2) (from 0 2) 4 3
-    ++ bayIn (from 5 6) (from 5 6) 9 5
+    ++ baySlot (from 10 20) (from 0 5) 7 3
+    ++ baySlot (from 0 2) (from 0 2) 4 3
+    ++ baySlot (from 5 6) (from 5 6) 9 5
     ++ blanks 5

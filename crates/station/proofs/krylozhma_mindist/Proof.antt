@@ -2,7 +2,7 @@
 use borrow.Author.Needs.{needs}
 use mathlib.Core.Path.{_≡_, ap, _∙_}
 use Rattle.measure.specs.Axes.{minDist}
-use Rattle.measure.specs.Answer.{Reply}
+use Rattle.measure.specs.Answer.{Reading}
 use Rattle.station.proofs.Measures.{AllFit, same-measure}
 use Rattle.station.proofs.krylozhma_mindist.Statement.{statement}
 use Rattle.station.proofs.krylozhma_mindist.Tie as tie
@@ -26,7 +26,7 @@ returns : tie.Need-returns
 returns c =
     let m = c .before in
     let p = m .before .before in
-    c .value .ensures ∙ ap (λ (r : Reply). r .value) (m .mindist .ensures ∙ same-measure minDist (fits (p .before)) (p .point .ensures) (m .before .bounds .ensures))
+    c .value .ensures ∙ ap (λ (r : Reading). r .value) (m .mindist .ensures ∙ same-measure minDist (fits (p .before)) (p .point .ensures) (m .before .bounds .ensures))
 
 pub krylozhma-mindist-spec : {M : Type 1} → statement M
 krylozhma-mindist-spec =

@@ -2,7 +2,7 @@
 use borrow.Author.Needs.{needs}
 use mathlib.Core.Path.{_≡_, ap, _∙_}
 use Rattle.measure.specs.Axes.{minMaxDist}
-use Rattle.measure.specs.Answer.{Reply}
+use Rattle.measure.specs.Answer.{Reading}
 use Rattle.station.proofs.Measures.{AllFit, same-measure}
 use Rattle.station.proofs.krylozhma_minmaxdist.Statement.{statement}
 use Rattle.station.proofs.krylozhma_minmaxdist.Tie as tie
@@ -26,7 +26,7 @@ returns : tie.Need-returns
 returns c =
     let m = c .before in
     let p = m .before .before in
-    c .value .ensures ∙ ap (λ (r : Reply). r .value) (m .minmaxdist .ensures ∙ same-measure minMaxDist (fits (p .before)) (p .point .ensures) (m .before .bounds .ensures))
+    c .value .ensures ∙ ap (λ (r : Reading). r .value) (m .minmaxdist .ensures ∙ same-measure minMaxDist (fits (p .before)) (p .point .ensures) (m .before .bounds .ensures))
 
 pub krylozhma-minmaxdist-spec : {M : Type 1} → statement M
 krylozhma-minmaxdist-spec =

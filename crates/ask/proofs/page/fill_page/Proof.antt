@@ -7,7 +7,7 @@ use Rattle.floor.specs.View.{viewOf}
 use Rattle.record.specs.declared.Record.{Record}
 use Rattle.record.specs.Record.{roomWith}
 use Rattle.nearest.specs.Shown.{distanceTo}
-use Rattle.nearest.proofs.Ready.{ground-shaped}
+use Rattle.nearest.proofs.Measured.{ground-shaped}
 use Rattle.ask.specs.Told.{toldOf, pageOf}
 use Rattle.ask.proofs.Filling.{told-length, told-page}
 use Rattle.ask.proofs.page.fill_page.Statement.{statement}

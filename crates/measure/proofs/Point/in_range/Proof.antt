@@ -1,5 +1,6 @@
 -- `measure::Point::in_range` meets its contract: its tests are the definition's own. Assumes nothing.
 use borrow.Author.Needs.{needs}
+use mathlib.Core.Bool.{and-true}
 use mir.Facts.{toZ-ofZ}
 use mir.Syntax.{w32}
 use mir.Val.{SFits}
@@ -19,7 +20,7 @@ returns : tie.Need-returns
 returns c =
     let x = c .before .before in
     let f = fits (x .before .before) in
-    simp (x .in-range .ensures, c .in-range2 .ensures, toZ-ofZ (f .0), toZ-ofZ (f .1))
+    simp (x .in-range .ensures, c .in-range2 .ensures, toZ-ofZ (f .0), toZ-ofZ (f .1), and-true)
 
 pub in-range-spec : {M : Type 1} → statement M
 in-range-spec = tie.close (tie.spec in-range-requires in-range-requires-2 returns)

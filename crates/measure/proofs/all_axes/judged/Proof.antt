@@ -10,7 +10,7 @@ use Rattle.measure.specs.declared.Axis.{Axis}
 use Rattle.measure.specs.declared.all_axes.Kind.{Kind}
 use Rattle.measure.specs.Axis.{pointIn, boxIn, Ready}
 use Rattle.measure.specs.Axes.{every, Each}
-use Rattle.measure.specs.Answer.{reply, measuredBy, measureOf}
+use Rattle.measure.specs.Answer.{reading, measuredBy, measureOf}
 use Rattle.measure.proofs.Answers.{measured-0, measured-1, measured-2, every-ready, every-two}
 use Rattle.measure.proofs.all_axes.judged.Statement.{statement}
 use Rattle.measure.proofs.all_axes.judged.Tie as tie
@@ -64,8 +64,8 @@ module _ (c : tie.Else2) where
   ready : Each Ready (axes (start (c .before .before)))
   ready = every-ready (axes (start (c .before .before))) points-in spans-in
 
-  found : {kind : Kind} {v : ℕ} → let s = start (c .before .before) in s .args .kind ≡ kind → v ≡ measureOf kind (axes s) → reply 0 v ≡ measuredBy (measureOf (s .args .kind)) (axes s)
-  found k e = ap (reply 0) (rw (sym k) at e) ∙ sym (measured-0 _ _ points-in spans-in)
+  found : {kind : Kind} {v : ℕ} → let s = start (c .before .before) in s .args .kind ≡ kind → v ≡ measureOf kind (axes s) → reading 0 v ≡ measuredBy (measureOf (s .args .kind)) (axes s)
+  found k e = ap (reading 0) (rw (sym k) at e) ∙ sym (measured-0 _ _ points-in spans-in)
 
 enum-told : tie.Need-enum-told
 enum-told c = search needs

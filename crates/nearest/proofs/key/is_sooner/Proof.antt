@@ -1,6 +1,7 @@
 -- `nearest::key::is_sooner` meets its contract: by number where they are as near, else by distance. Assumes nothing.
 use mathlib.Core.Path.{_≡_, sym, ap, _∙_}
 use denote.Ref.{now}
+use lib.Dec.{ltb}
 use borrow.Author.Needs.{needs}
 use borrow.Author.Tests.{eq-eqb, ne-eqb}
 use Rattle.floor.specs.View.{viewOf}
@@ -38,7 +39,7 @@ returns c =
     c .before .before .ref-of .ensures ∙ ap (v .ref) (c .before .before .before .slot .ensures) in
     let right : c .ref-of2 .result ≡ v .ref (slotIn (s .args .b .0)) = c .ref-of2 .ensures ∙ ap (v .ref) (c .before .slot2 .ensures) in
     let tied : farIn (s .args .a .0) ≡ farIn (s .args .b .0) = sym (d .before .far .ensures) ∙ t .if1 .taken ∙ d .far2 .ensures in
-    rw (left, right, eq-eqb (farIn (s .args .a .0)) (farIn (s .args .b .0)) tied)
+    rw (eq-eqb (farIn (s .args .a .0)) (farIn (s .args .b .0)) tied) (λ i. ltb (left i) (right i))
 
 returns-2 : tie.Need-returns-2
 unfolding before

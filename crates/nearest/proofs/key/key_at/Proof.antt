@@ -4,8 +4,7 @@ use native.Mathlib.Omega.{arith}
 use mathlib.Core.Path.{_≡_}
 use denote.Ref.{now}
 use Rattle.floor.specs.View.{viewOf}
-use Rattle.nearest.proofs.Ready.{ground-shaped}
-use Rattle.nearest.proofs.Keys.{gap-small}
+use Rattle.nearest.proofs.Measured.{ground-shaped, distance-small}
 use Rattle.nearest.proofs.key.key_at.Statement.{statement}
 use Rattle.nearest.proofs.key.key_at.Tie as tie
 
@@ -16,13 +15,13 @@ mul-number : tie.Need-mul-number
 mul-number c =
     let s = c .before .before .before in
     let v = viewOf (now (s .args .map)) in
-    omega (arith, c .before .how-far .ensures, gap-small v (s .args .p) (s .pre .0) (s .args .j) (s .pre .1) (s .pre .2))
+    omega (arith, c .before .how-far .ensures, distance-small v (s .args .p) (s .pre .0) (s .args .j) (s .pre .1) (s .pre .2))
 
 add-number : tie.Need-add-number
 add-number c =
     let s = c .before .before .before in
     let v = viewOf (now (s .args .map)) in
-    omega (arith, c .before .how-far .ensures, gap-small v (s .args .p) (s .pre .0) (s .args .j) (s .pre .1) (s .pre .2), s .pre .1, ground-shaped v (s .args .p) (s .pre .0) .few)
+    omega (arith, c .before .how-far .ensures, distance-small v (s .args .p) (s .pre .0) (s .args .j) (s .pre .1) (s .pre .2), s .pre .1, ground-shaped v (s .args .p) (s .pre .0) .few)
 
 returns : tie.Need-returns
 returns c = rw (c .before .how-far .ensures)

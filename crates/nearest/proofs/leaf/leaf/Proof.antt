@@ -11,12 +11,12 @@ use Rattle.floor.specs.View.{View, viewOf}
 use Rattle.numbers.proofs.Tests.{both}
 use Rattle.order.specs.Order.{place, gather}
 use Rattle.order.proofs.Only.{gather-more}
-use Rattle.tree.specs.Below.{partBays}
+use Rattle.tree.specs.Under.{partBays}
 use Rattle.question.specs.declared.Question.{Question}
 use Rattle.nearest.specs.Shown.{distanceTo}
 use Rattle.nearest.specs.Best.{sooner, listing}
 use Rattle.nearest.specs.Searched.{Searched}
-use Rattle.nearest.proofs.Ready.{ground-shaped}
+use Rattle.nearest.proofs.Measured.{ground-shaped}
 use Rattle.nearest.proofs.Keys.{slot-back}
 use Rattle.nearest.proofs.Offer.{part-sorted}
 use Rattle.nearest.proofs.Searching.{searched-none, searched-more}

@@ -8,7 +8,7 @@ use Rattle.floor.specs.View.{viewOf}
 use Rattle.nearest.specs.Shown.{distanceTo}
 use Rattle.nearest.specs.Asked.{wantedBy}
 use Rattle.nearest.specs.Best.{slotIn, sooner}
-use Rattle.nearest.proofs.Ready.{ground-shaped}
+use Rattle.nearest.proofs.Measured.{ground-shaped}
 use Rattle.nearest.proofs.Keys.{slot-back}
 use Rattle.nearest.proofs.Takes.{takes-none, takes-unwanted, takes-room, takes-before}
 use Rattle.nearest.proofs.leaf.takes.Statement.{statement}

@@ -11,7 +11,7 @@ use Rattle.floor.specs.View.{viewOf, slotOf}
 use Rattle.question.specs.Badge.{onBadge}
 use Rattle.question.specs.Mark.{before}
 use Rattle.nearest.specs.Shown.{shownAt, afterMark, distanceTo}
-use Rattle.nearest.proofs.Ready.{ground-shaped, slot-ready}
+use Rattle.nearest.proofs.Measured.{ground-shaped, slot-ready}
 use Rattle.nearest.proofs.leaf.wants.Statement.{statement}
 use Rattle.nearest.proofs.leaf.wants.Tie as tie
 

@@ -4,7 +4,7 @@ use mathlib.Core.Bool.{true, false}
 use denote.Ref.{now}
 use Rattle.floor.specs.View.{viewOf, filled}
 use Rattle.nearest.specs.Reach.{gapOf}
-use Rattle.nearest.proofs.Ready.{ground-shaped}
+use Rattle.nearest.proofs.Measured.{ground-shaped}
 use Rattle.nearest.proofs.reach.gap.Statement.{statement}
 use Rattle.nearest.proofs.reach.gap.Tie as tie
 

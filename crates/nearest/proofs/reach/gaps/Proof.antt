@@ -10,7 +10,7 @@ use Rattle.measure.specs.declared.HowFar.{HowFar}
 use Rattle.floor.specs.View.{viewOf}
 use Rattle.nearest.specs.Shown.{distanceTo}
 use Rattle.nearest.specs.Reach.{none, gapOf}
-use Rattle.nearest.proofs.Ready.{ground-shaped}
+use Rattle.nearest.proofs.Measured.{ground-shaped}
 use Rattle.numbers.proofs.Arrays.{filled-next}
 use Rattle.nearest.proofs.reach.gaps.Statement.{statement}
 use Rattle.nearest.proofs.reach.gaps.Tie as tie

@@ -17,18 +17,16 @@ use Rattle.numbers.specs.Below.{countBelow}
 use Rattle.numbers.proofs.Tests.{both}
 use Rattle.measure.specs.declared.HowFar.{HowFar}
 use Rattle.floor.specs.View.{View, viewOf}
-use Rattle.tree.specs.Below.{partBays}
+use Rattle.tree.specs.Under.{partBays}
 use Rattle.tree.proofs.Tree.{keeps-treelike}
 use Rattle.question.specs.declared.Question.{Question}
 use Rattle.nearest.specs.declared.best.Best.{Best}
 use Rattle.nearest.specs.Shown.{distanceTo}
 use Rattle.nearest.specs.Reach.{none, beyond, opened}
 use Rattle.nearest.specs.Searched.{Searched}
-use Rattle.nearest.proofs.Ready.{ground-shaped}
+use Rattle.nearest.proofs.Measured.{ground-shaped, distance-small, distance-grows}
 use Rattle.nearest.proofs.Offer.{listed}
 use Rattle.nearest.proofs.Searching.{kept-in-place}
-use Rattle.nearest.proofs.Keys.{gap-small}
-use Rattle.nearest.proofs.Page.{mindist-grows}
 use Rattle.nearest.proofs.Visits.{openAt, fewer, Marks, marks-start, marks-next, child-there, child-level, part-down, Visited, visits-none, visits-one, visits-stop}
 use Rattle.nearest.proofs.search.search.Reads as search′
 use Rattle.nearest.proofs.search.search.Kinds as search-kinds
@@ -103,7 +101,7 @@ loop-holds t c =
       omega arith,
       c .least .ensures .1,
       marks-start v d (s .args .node) (c .before .gaps .result) g,
-      visits-none v d q (s .args .level) (s .args .node) (ground .keeps) low (s .pre .1 .2) (λ i h f. omega (arith, gap-small v (q .from) ground i h f)) (c .before .gaps .result) (s .args .best) g (s .pre .1 .4),
+      visits-none v d q (s .args .level) (s .args .node) (ground .keeps) low (s .pre .1 .2) (λ i h f. omega (arith, distance-small v (q .from) ground i h f)) (c .before .gaps .result) (s .args .best) g (s .pre .1 .4),
     )
 
 mul-opens : (t : ℕ) → search-lts.Need-mul-opens (claims t) (search-at t) search′.Post Inv-loop μ-loop
@@ -226,7 +224,7 @@ returns t c =
     let q = s .args .q in
     let v = viewOf (now (s .args .map)) in
     let keeps = s .pre .1 .0 .keeps in
-    visits-stop v (distanceTo v (q .from)) q (s .args .level) (s .args .node) keeps (s .pre .1 .1) (s .pre .1 .2) (mindist-grows v keeps (q .from)) (l .ds) (l .j) (s .args .best) (l .b) (l .inv .4) (l .inv .3)
+    visits-stop v (distanceTo v (q .from)) q (s .args .level) (s .args .node) keeps (s .pre .1 .1) (s .pre .1 .2) (distance-grows v keeps (q .from)) (l .ds) (l .j) (s .args .best) (l .b) (l .inv .4) (l .inv .3)
     (sym (c .before .opens .ensures) ∙ c .if1 .left) (l .inv .5)
 
 pub +search-spec : {M : Type 1} → statement M

@@ -7,7 +7,7 @@ use borrow.Author.Needs.{needs}
 use Rattle.floor.specs.View.{viewOf}
 use Rattle.nearest.specs.Shown.{distanceTo}
 use Rattle.nearest.specs.Best.{noBays}
-use Rattle.nearest.proofs.Ready.{ground-shaped}
+use Rattle.nearest.proofs.Measured.{ground-shaped}
 use Rattle.nearest.proofs.Start.{no-bays-carried, root-found}
 use Rattle.nearest.proofs.search.nearest.Statement.{statement}
 use Rattle.nearest.proofs.search.nearest.Tie as tie

@@ -4,7 +4,7 @@ use denote.Ref.{now}
 use borrow.Author.Needs.{needs}
 use Rattle.floor.specs.View.{viewOf}
 use Rattle.nearest.specs.Best.{noBays}
-use Rattle.nearest.proofs.Ready.{ground-shaped}
+use Rattle.nearest.proofs.Measured.{ground-shaped}
 use Rattle.nearest.proofs.Offer.{listed}
 use Rattle.nearest.proofs.Searching.{kept-in-place}
 use Rattle.nearest.proofs.Start.{no-bays-carried}

@@ -4,7 +4,7 @@ use denote.Ref.{now}
 use Rattle.measure.specs.Axes.{minDist}
 use Rattle.measure.specs.Answer.{axesOf}
 use Rattle.floor.specs.View.{viewOf}
-use Rattle.nearest.proofs.Ready.{ground-shaped, slot-ready}
+use Rattle.nearest.proofs.Measured.{ground-shaped, slot-ready}
 use Rattle.nearest.proofs.slots.how_far.Statement.{statement}
 use Rattle.nearest.proofs.slots.how_far.Tie as tie
 

@@ -24,7 +24,7 @@ abbrev pub InBox : View → ℕ → ℕ → Type 0
 InBox v j k = (a : ℕ) → a < axisCount → Inside (v .span k a) (v .span j a)
 
 -- The bays below, as a search that goes down comes upon them: the numbers of their slots. For the proofs of searches: what
--- a reader believes is flat, in Bays.
+-- a reader believes is flat, in Flat.
 module _ (v : View) where
   -- below a filled slot of a node of the level l: the bay itself, or the bays of the node that it names
   unfoldable pub slotBays : ℕ → ℕ → List ℕ

@@ -8,7 +8,7 @@ use Rattle.measure.specs.declared.Point.{Point}
 use Rattle.measure.specs.Axes.{minDist}
 use Rattle.measure.specs.Answer.{axesOf}
 use Rattle.floor.specs.View.{View, viewOf, boundsOf}
-use Rattle.tree.specs.Bays.{allBays}
+use Rattle.tree.specs.Flat.{allBays}
 use Rattle.order.specs.Order.{Same, only}
 use Rattle.record.specs.declared.Record.{Record}
 use Rattle.nearest.specs.Shown.{shownAt}
