@@ -38,7 +38,11 @@ pub fn key_at(map: &[u8], p: Point, j: usize) -> Key
 
 // Whether the bay of one key comes strictly before that of another; the map is read only where they are as near.
 pub fn is_sooner(map: &[u8], a: Key, b: Key) -> bool
-    requires { ⌜ Shaped (viewOf (now map)) × (slotIn (a .0) < 8 * viewOf (now map) .count) × (slotIn (b .0) < 8 * viewOf (now map) .count) ⌝ }
+    requires { ⌜
+        Shaped (viewOf (now map))
+        × (slotIn (a .0) < 8 * viewOf (now map) .count)
+        × (slotIn (b .0) < 8 * viewOf (now map) .count)
+        ⌝ }
     ensures { λ r. ⌜ r ≡ sooner (viewOf (now (map .entry))) (a .0) (b .0) ⌝ }
 {
     let far = a.far();

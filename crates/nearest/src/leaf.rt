@@ -38,7 +38,11 @@ fn wants(map: &[u8], q: Question, j: usize) -> bool
 
 // Whether the bay in a slot goes into a list of len bays, of which the kth, if there is one, is last.
 fn takes(map: &[u8], q: Question, j: usize, len: usize, last: Key) -> bool
-    requires { ⌜ Ground (viewOf (now map)) (q .from) × (j < 8 * viewOf (now map) .count) × (slotIn (last .0) < 8 * viewOf (now map) .count) ⌝ }
+    requires { ⌜
+        Ground (viewOf (now map)) (q .from)
+        × (j < 8 * viewOf (now map) .count)
+        × (slotIn (last .0) < 8 * viewOf (now map) .count)
+        ⌝ }
     ensures { λ r. ⌜ r ≡ takenOf (viewOf (now (map .entry))) (distanceTo (viewOf (now (map .entry))) (q .from)) q j len (last .0) ⌝ }
 {
     if is_filled(map, j) {
@@ -55,7 +59,11 @@ fn takes(map: &[u8], q: Question, j: usize, len: usize, last: Key) -> bool
 
 // Takes the slots of a leaf into a list of len bays, and answers how many it has then.
 pub fn leaf(map: &[u8], q: Question, node: usize, len: usize, keys: &mut [u64; 100]) -> usize
-    requires { ⌜ Ground (viewOf (now map)) (q .from) × (node < viewOf (now map) .count) × Carried (viewOf (now map)) (q .k) (listing (q .k) (now keys) len) ⌝ }
+    requires { ⌜
+        Ground (viewOf (now map)) (q .from)
+        × (node < viewOf (now map) .count)
+        × Carried (viewOf (now map)) (q .k) (listing (q .k) (now keys) len)
+        ⌝ }
     ensures { λ r. ⌜ Searched (viewOf (now (map .entry))) (distanceTo (viewOf (now (map .entry))) (q .from)) q (nodeBays (viewOf (now (map .entry))) 0 node) (listing (q .k) (now (keys .entry)) len) (listing (q .k) (now (keys .exit)) r) ⌝ }
 {
     let k = q.k;

@@ -24,7 +24,13 @@ use question::Question;
 
 // The best list after all that is below a node above the leaves.
 pub fn search(map: &[u8], q: Question, node: usize, level: u8, best: Best) -> Best
-    requires { ⌜ Ground (viewOf (now map)) (q .from) × (node < viewOf (now map) .count) × (viewOf (now map) .level node ≡ level) × (0 < level) × Carried (viewOf (now map)) (q .k) best ⌝ }
+    requires { ⌜
+        Ground (viewOf (now map)) (q .from)
+        × (node < viewOf (now map) .count)
+        × (viewOf (now map) .level node ≡ level)
+        × (0 < level)
+        × Carried (viewOf (now map)) (q .k) best
+        ⌝ }
     ensures { λ r. ⌜ Searched (viewOf (now (map .entry))) (distanceTo (viewOf (now (map .entry))) (q .from)) q (nodeBays (viewOf (now (map .entry))) level node) best r ⌝ }
 {
     let mut b = best;

@@ -64,7 +64,10 @@ fn hull_of(map: &[u8], n: usize) -> Bounds
 
 // A filled slot of a node above the leaves carries that box.
 pub fn tight_ok(map: &[u8], j: usize) -> bool
-    requires { ⌜ Shaped (viewOf (now map)) × ((j < 8 * viewOf (now map) .count) × (filled (viewOf (now map)) j ≡ true → viewOf (now map) .ref j < viewOf (now map) .count)) ⌝ }
+    requires { ⌜
+        Shaped (viewOf (now map))
+        × ((j < 8 * viewOf (now map) .count) × (filled (viewOf (now map)) j ≡ true → viewOf (now map) .ref j < viewOf (now map) .count))
+        ⌝ }
     ensures { λ r. ⌜ r ≡ tightOk (viewOf (now (map .entry))) j ⌝ }
 {
     if !floor::is_filled(map, j) {

@@ -85,7 +85,10 @@ fn slot_holds(map: &[u8], rule: Rule, j: usize) -> bool
 
 // A rule's test of every slot of a node.
 fn slots_hold(map: &[u8], rule: Rule, n: usize) -> bool
-    requires { ⌜ Shaped (viewOf (now map)) × ((n < viewOf (now map) .count) × ((i : ℕ) → i < 8 → Leans rule (viewOf (now map)) (8 * n + i))) ⌝ }
+    requires { ⌜
+        Shaped (viewOf (now map))
+        × ((n < viewOf (now map) .count) × ((i : ℕ) → i < 8 → Leans rule (viewOf (now map)) (8 * n + i)))
+        ⌝ }
     ensures { λ r. ⌜ r ≡ allBelow (λ i. slotRule rule (viewOf (now (map .entry))) (8 * n + i)) 8 ⌝ }
 {
     let mut ok = true;
@@ -108,7 +111,10 @@ fn above_leaves(map: &[u8], rule: Rule, n: usize) -> bool
 
 // A rule's test of one node, which is named so many times.
 fn holds(map: &[u8], rule: Rule, times: u16, n: usize) -> bool
-    requires { ⌜ Shaped (viewOf (now map)) × ((n < viewOf (now map) .count) × (LeansAll rule (viewOf (now map)) × (rule ≡ Rule.Links → times ≡ named (viewOf (now map)) n))) ⌝ }
+    requires { ⌜
+        Shaped (viewOf (now map))
+        × ((n < viewOf (now map) .count) × (LeansAll rule (viewOf (now map)) × (rule ≡ Rule.Links → times ≡ named (viewOf (now map)) n)))
+        ⌝ }
     ensures { λ r. ⌜ r ≡ ruleOk rule (viewOf (now (map .entry))) n ⌝ }
 {
     match rule {
@@ -122,7 +128,10 @@ fn holds(map: &[u8], rule: Rule, times: u16, n: usize) -> bool
 
 // The lowest node at which a rule fails, or the node count.
 fn first_fault(map: &[u8], rule: Rule, counts: [u16; 256]) -> usize
-    requires { ⌜ Shaped (viewOf (now map)) × (LeansAll rule (viewOf (now map)) × (rule ≡ Rule.Links → Counted (viewOf (now map)) counts)) ⌝ }
+    requires { ⌜
+        Shaped (viewOf (now map))
+        × (LeansAll rule (viewOf (now map)) × (rule ≡ Rule.Links → Counted (viewOf (now map)) counts))
+        ⌝ }
     ensures { λ r. ⌜ r ≡ lowestFault rule (viewOf (now (map .entry))) ⌝ }
 {
     let count = floor::count_of(map);

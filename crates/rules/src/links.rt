@@ -16,7 +16,10 @@ fn once(t: bool) -> u16
 // How many slots name each node; a leaf is passed over whole. The number of a node is below 256, so that the remainder
 // cuts only where nothing is added.
 pub fn naming_counts(map: &[u8]) -> [u16; 256]
-    requires { ⌜ Shaped (viewOf (now map)) × ((j : ℕ) → j < 8 * viewOf (now map) .count → link (viewOf (now map)) j ≡ true → viewOf (now map) .ref j < viewOf (now map) .count) ⌝ }
+    requires { ⌜
+        Shaped (viewOf (now map))
+        × ((j : ℕ) → j < 8 * viewOf (now map) .count → link (viewOf (now map)) j ≡ true → viewOf (now map) .ref j < viewOf (now map) .count)
+        ⌝ }
     ensures { λ r. ⌜ Counted (viewOf (now (map .entry))) r ⌝ }
 {
     let slots = 8 * floor::count_of(map);
@@ -49,7 +52,10 @@ pub fn named_ok(map: &[u8], times: u16, n: usize) -> bool
 
 // A filled slot of a node above the leaves names a node one level lower.
 pub fn step_ok(map: &[u8], j: usize) -> bool
-    requires { ⌜ Shaped (viewOf (now map)) × ((j < 8 * viewOf (now map) .count) × (filled (viewOf (now map)) j ≡ true → viewOf (now map) .ref j < viewOf (now map) .count)) ⌝ }
+    requires { ⌜
+        Shaped (viewOf (now map))
+        × ((j < 8 * viewOf (now map) .count) × (filled (viewOf (now map)) j ≡ true → viewOf (now map) .ref j < viewOf (now map) .count))
+        ⌝ }
     ensures { λ r. ⌜ r ≡ stepOk (viewOf (now (map .entry))) j ⌝ }
 {
     if !floor::is_filled(map, j) {

@@ -66,7 +66,10 @@ pub extern "C" fn krylozhma_ask(
     bay: u32,
     room: &mut [u8],
 ) -> u64
-    ensures { λ r. ⌜ (r ≡ paired (replyOf (now (map .entry)) (asked x y k badge dsq bay) (now (room .entry)) .number) (replyOf (now (map .entry)) (asked x y k badge dsq bay) (now (room .entry)) .found)) × (now (room .exit) ≡ replyOf (now (map .entry)) (asked x y k badge dsq bay) (now (room .entry)) .room) ⌝ }
+    ensures { λ r. ⌜
+        (r ≡ paired (replyOf (now (map .entry)) (asked x y k badge dsq bay) (now (room .entry)) .number) (replyOf (now (map .entry)) (asked x y k badge dsq bay) (now (room .entry)) .found))
+        × (now (room .exit) ≡ replyOf (now (map .entry)) (asked x y k badge dsq bay) (now (room .entry)) .room)
+        ⌝ }
 {
     let answer = ask::ask(map, question_of(x, y, k, badge, dsq, bay), room);
     let number = answer.number() as u64;
@@ -98,7 +101,8 @@ pub extern "C" fn krylozhma_measure_answer(
     ylow: i32,
     yhigh: i32,
 ) -> u32
-    ensures { λ r. ⌜ r ≡ measuredBy minDist (axes x y xlow xhigh ylow yhigh) .number ⌝ }
+    ensures { λ r. ⌜ (r ≡ measuredBy minDist (axes x y xlow xhigh ylow yhigh) .number)
+        × (r ≡ measuredBy minMaxDist (axes x y xlow xhigh ylow yhigh) .number) ⌝ }
 {
     measure::mindist(point(x, y), bounds(xlow, xhigh, ylow, yhigh)).number()
 }

@@ -1,9 +1,9 @@
--- `station::krylozhma_measure_answer` meets its contract: the measure of that point and box. Assumes nothing.
+-- `station::krylozhma_measure_answer` meets its contract: what is refused does not hang on the measure. Assumes nothing.
 use borrow.Author.Needs.{needs}
 use mathlib.Core.Path.{_≡_, ap, _∙_}
-use Rattle.measure.specs.Axes.{minDist}
+use Rattle.measure.specs.Axes.{minDist, minMaxDist}
 use Rattle.measure.specs.Answer.{Reading}
-use Rattle.station.proofs.Measures.{AllFit, same-measure}
+use Rattle.station.proofs.Measures.{AllFit, same-measure, same-number}
 use Rattle.station.proofs.krylozhma_measure_answer.Statement.{statement}
 use Rattle.station.proofs.krylozhma_measure_answer.Tie as tie
 
@@ -26,7 +26,8 @@ returns : tie.Need-returns
 returns c =
     let m = c .before in
     let p = m .before .before in
-    c .number .ensures ∙ ap (λ (r : Reading). r .number) (m .mindist .ensures ∙ same-measure minDist (fits (p .before)) (p .point .ensures) (m .before .bounds .ensures))
+    let one = c .number .ensures ∙ ap (λ (r : Reading). r .number) (m .mindist .ensures ∙ same-measure minDist (fits (p .before)) (p .point .ensures) (m .before .bounds .ensures)) in
+    (one, one ∙ same-number minDist minMaxDist _)
 
 pub krylozhma-measure-answer-spec : {M : Type 1} → statement M
 krylozhma-measure-answer-spec =
