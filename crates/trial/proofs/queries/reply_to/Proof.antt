@@ -12,26 +12,8 @@ use borrow.Author.Needs.{needs}
 use Rattle.trial.proofs.queries.reply_to.Statement.{statement}
 use Rattle.trial.proofs.queries.reply_to.Tie as tie
 
-signed-requires : tie.Need-signed-requires
-signed-requires c κs = search needs
-
-signed-requires-2 : tie.Need-signed-requires-2
-signed-requires-2 c κs = search needs
-
-cast-size : tie.Need-cast-size
-cast-size c = search needs
-
-slice-relend-prefix-lent : tie.Need-slice-relend-prefix-lent
-slice-relend-prefix-lent c = search needs
-
 slice-aggregate-lent : tie.Need-slice-aggregate-lent
 slice-aggregate-lent c = sym (length-take-le _ _ (search needs))
-
-krylozhma-ask-requires : tie.Need-krylozhma-ask-requires
-krylozhma-ask-requires c κs = search needs
-
-same-length : tie.Need-same-length
-same-length c = search needs
 
 -- the lower half of a reply's pair
 few : (map room : List ℕ) (q : Question) (r : ℕ) → r ≡ paired (replyOf map q room .number) (replyOf map q room .found) → r % 4294967296 ≤ 100
@@ -44,11 +26,11 @@ pub reply-to-spec : {M : Type 1} → statement M
 reply-to-spec =
     tie.close
     (tie.spec
-    signed-requires
-    signed-requires-2
-    cast-size
-    slice-relend-prefix-lent
+    (λ c κs. search needs)
+    (λ c κs. search needs)
+    (λ c. search needs)
+    (λ c. search needs)
     slice-aggregate-lent
-    krylozhma-ask-requires
-    same-length
+    (λ c κs. search needs)
+    (λ c. search needs)
     returns)

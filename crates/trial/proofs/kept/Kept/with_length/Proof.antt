@@ -4,14 +4,8 @@ use Rattle.trial.proofs.Lengths.{fit-set}
 use Rattle.trial.proofs.kept.Kept.with_length.Statement.{statement}
 use Rattle.trial.proofs.kept.Kept.with_length.Tie as tie
 
-mul-self : tie.Need-mul-self
-mul-self c = search needs
-
-element-write-self : tie.Need-element-write-self
-element-write-self c = search needs
-
 returns : tie.Need-returns
 returns c = fit-set (c .args .t1 .lengths) (c .args .m) (c .args .length) (search needs) (c .pre .0)
 
 pub with-length-spec : {M : Type 1} → statement M
-with-length-spec = tie.close (tie.spec mul-self element-write-self returns)
+with-length-spec = tie.close (tie.spec (λ c. search needs) (λ c. search needs) returns)
