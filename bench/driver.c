@@ -2,8 +2,6 @@
    Usage: driver answers FOLDER
           driver count FOLDER [PART]            under callgrind: one dump for each cell, labelled
           driver time FOLDER [PART]             one line for each cell: its label and the nanoseconds of its fastest turn
-          driver cells FOLDER [PART]            the labels alone
-          driver repeat FOLDER LABEL REPEATS    one cell, so many times over, for a counter that only sees the whole run
    With PART, only the cells whose label has that text in it. */
 #include "answers.h"
 #include "cells.h"
@@ -69,18 +67,6 @@ static void take_time(const char *label, const struct row *row, const struct que
     printf("%s\t%.0f\n", label, best);
 }
 
-static void print_label(const char *label, const struct row *row, const struct question *questions) {
-    (void)row, (void)questions;
-    puts(label);
-}
-
-static int repeats;
-
-static void repeat(const char *label, const struct row *row, const struct question *questions) {
-    (void)label;
-    for (int i = 0; i < repeats; i++) turn(row, questions);
-}
-
 /* Only the cells whose label has this in it; no label is part of another. */
 static const char *part = "";
 
@@ -116,13 +102,12 @@ static void visit_all(const char *folder, visit *measure) {
 
 int main(int argc, char **argv) {
     static const struct { const char *mode; visit *measure; } modes[] = {
-        { "count", count }, { "time", take_time }, { "cells", print_label }, { "repeat", repeat },
+        { "count", count }, { "time", take_time },
     };
     if (argc >= 3 && strcmp(argv[1], "answers") == 0) return compare_answers(argv[2]);
     if (argc >= 4) part = argv[3];
-    if (argc >= 5) repeats = atoi(argv[4]);
     for (size_t m = 0; m < sizeof modes / sizeof *modes; m++)
         if (argc >= 3 && strcmp(argv[1], modes[m].mode) == 0) return visit_all(argv[2], modes[m].measure), 0;
-    fprintf(stderr, "usage: driver answers|count|time|cells FOLDER [PART], driver repeat FOLDER LABEL REPEATS\n");
+    fprintf(stderr, "usage: driver answers FOLDER, driver count|time FOLDER [PART]\n");
     return 2;
 }

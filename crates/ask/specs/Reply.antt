@@ -14,7 +14,7 @@ use Rattle.record.specs.declared.Record.{Record}
 use Rattle.record.specs.Record.{recordSize, roomWith}
 use Rattle.question.specs.declared.Question.{Question}
 use Rattle.question.specs.Badge.{badgeOk}
-use Rattle.nearest.specs.Ground.{Ground}
+use Rattle.nearest.specs.Needed.{Searchable}
 use Rattle.ask.specs.declared.Answer.{Answer}
 use Rattle.ask.specs.declared.Answer.the-variants.{PointOutside, CountOutside, BadgeRefused, RoomTooShort, MapRefused, Found}
 use Rattle.ask.specs.Told.{pageOf}
@@ -89,9 +89,7 @@ pub record OwnAnswer (q : Question) (size : ℕ) (a : Answer) : Type 0 where
 
 -- a question that may be answered on a map, with a room of so many bytes
 pub record Answerable (map : List ℕ) (q : Question) (size : ℕ) : Type 0 where
-  pub ground : Ground (viewOf map) (q .from)
-  pub k-low : 1 ≤ q .k
-  pub k-high : q .k ≤ 100
+  pub search : Searchable (viewOf map) q
   pub fits : recordSize * q .k ≤ size
 
 -- its page: how many bays it has, and the room after it

@@ -30,7 +30,7 @@ use Rattle.nearest.proofs.Listed.{whole-bay}
 use Rattle.ask.specs.Told.{recordAt, markOf}
 use Rattle.ask.specs.Reply.{accepted}
 use Rattle.ask.proofs.Replies.{accepted-keeps}
-use Rattle.demands.specs.Visible.{Bay, bayOf, visible, seenFrom, SameBays}
+use Rattle.demands.specs.Visible.{Bay, bayAt, visible, seenFrom, SameBays}
 use Rattle.demands.specs.Demands.{listOn, earlier, numbersOf}
 
 module _ (m : List ℕ) (badge : ℕ) (point : Point) where
@@ -45,7 +45,7 @@ module _ (m : List ℕ) (badge : ℕ) (point : Point) where
 
   told-seen : map told shown ≡ map (seenFrom point) (visible badge m)
   unfolding visible
-  told-seen = sym (map-map (seenFrom point) (bayOf v) shown)
+  told-seen = sym (map-map (seenFrom point) (bayAt v) shown)
 
   whole-is : listOn m badge point ≡ sort earlier (map (seenFrom point) (visible badge m))
   unfolding wholeList

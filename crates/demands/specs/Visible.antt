@@ -20,12 +20,12 @@ pub record Bay : Type 0 where
   pub bounds : Bounds
 
 -- the bay in slot j
-abbrev pub bayOf : View → ℕ → Bay
-bayOf v j = record { number = v .ref j; zone = v .zone j; bounds = boundsOf v j }
+abbrev pub bayAt : View → ℕ → Bay
+bayAt v j = record { number = v .ref j; zone = v .zone j; bounds = boundsOf v j }
 
 -- the bays that a badge is shown
 unfoldable pub visible : ℕ → List ℕ → List Bay
-visible badge m = map (bayOf (viewOf m)) (only (shownAt (viewOf m) badge) (allBays (viewOf m)))
+visible badge m = map (bayAt (viewOf m)) (only (shownAt (viewOf m) badge) (allBays (viewOf m)))
 
 -- a bay as it is told to whoever asks from a point: how far it is is MINDIST to its box
 abbrev pub seenFrom : Point → Bay → Record

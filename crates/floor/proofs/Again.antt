@@ -15,8 +15,8 @@ use Rattle.floor.specs.declared.Slot.{Slot}
 use Rattle.floor.specs.Layout.{axisCount, headerSize, headSize, nodeSize, slotSize, nodeAt, slotAt, mapSize}
 use Rattle.floor.specs.View.{View, viewOf, slotOf}
 use Rattle.floor.specs.Written.{slotBytes, blank, Whole, nodeBytes, headerBytes, putSlot, putNode, putHeader}
-use Rattle.floor.specs.Edits.{withNode, withHeader, Alike}
-use Rattle.floor.proofs.Fields.{headerOf, headOf, Agree, header-same, head-same, slot-same}
+use Rattle.floor.specs.Edits.{withNode, withHeader, SameView}
+use Rattle.floor.proofs.Fields.{headerOf, headOf, SameBytes, header-same, head-same, slot-same}
 use Rattle.floor.proofs.Own.{SlotFits, NodeFits, HeaderFits, slot-length, node-length, header-length, slot-own, head-own, node-agree, header-own}
 use Rattle.floor.proofs.Edits.{headWritten, with-header, with-size, head-here, head-there, slot-here, slot-there}
 
@@ -24,11 +24,11 @@ use Rattle.floor.proofs.Edits.{headWritten, with-header, with-size, hea
 
 module _ (bs m : List ℕ) (at : ℕ) where
   -- bytes that lie apart from it
-  apart : (size p : ℕ) → (p + size ≤ at) ⊎ (at + length bs ≤ p) → Agree size (sets m at bs) p m p
+  apart : (size p : ℕ) → (p + size ≤ at) ⊎ (at + length bs ≤ p) → SameBytes size (sets m at bs) p m p
   apart size p h k d l = le-beside bs m at k (p + d) (⊎-elim (λ a. inl (omega arith)) (λ a. inr (omega arith)) h)
 
   -- bytes that lie within it, from e on
-  within : (size p e : ℕ) → p ≡ at + e → e + size ≤ length bs → at + length bs ≤ length m → Agree size (sets m at bs) p bs e
+  within : (size p e : ℕ) → p ≡ at + e → e + size ≤ length bs → at + length bs ≤ length m → SameBytes size (sets m at bs) p bs e
   within size p e q h fits k d l =
       let place : p + d ≡ at + (e + d) = omega arith in
       rw place (le-within bs m at k (e + d) (omega arith) fits)
@@ -84,7 +84,7 @@ module _ (m : List ℕ) (j : ℕ) (s : Slot) where
 -- ---- alike by parts
 
 alike-by : (v w : View) → v .size ≡ w .size → headerOf v ≡ headerOf w → ((n : ℕ) → headOf v n ≡ headOf w n)
-    → ((j : ℕ) → slotOf v j ≡ slotOf w j) → Alike v w
+    → ((j : ℕ) → slotOf v j ≡ slotOf w j) → SameView v w
 alike-by v w size header head slot =
     record {
       size = size;
@@ -120,7 +120,7 @@ module _ (m : List ℕ) (n : ℕ) (h : Whole) (f : NodeFits h) (fits : nodeAt n 
       ∙ slot-own (getD (h .slots) (j % 8) blank) (f .slots (j % 8) (omega arith))
 
   -- the bytes of a node written anew show the view with the node written anew
-  pub node-again : Alike (viewOf (putNode m n h)) (withNode (viewOf m) n h)
+  pub node-again : SameView (viewOf (putNode m n h)) (withNode (viewOf m) n h)
   node-again =
       let v = viewOf m in
       let long = node-length h in
@@ -147,7 +147,7 @@ module _ (m : List ℕ) (n : ℕ) (h : Whole) (f : NodeFits h) (fits : nodeAt n 
 -- ---- the header written anew
 
 module _ (m : List ℕ) (count root height : ℕ) (f : HeaderFits count root height) (fits : length m ≡ mapSize count) where
-  pub header-again : Alike (viewOf (putHeader m count root height)) (withHeader (viewOf m) count root height)
+  pub header-again : SameView (viewOf (putHeader m count root height)) (withHeader (viewOf m) count root height)
   unfolding viewOf withHeader
   header-again =
       let bs = headerBytes count root height in

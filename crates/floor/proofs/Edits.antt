@@ -6,7 +6,7 @@ use borrow.Author.Tests.{eq-eqb, ne-eqb}
 use Rattle.floor.specs.declared.Node.{Node}
 use Rattle.floor.specs.View.{View, slotOf}
 use Rattle.floor.specs.Written.{Whole}
-use Rattle.floor.specs.Edits.{slotIn, withNode}
+use Rattle.floor.specs.Edits.{slotOfWhole, withNode}
 use Rattle.floor.proofs.Fields.{headerOf, headOf}
 
 -- a node's head, as it was written
@@ -30,7 +30,7 @@ module _ (v : View) (n : ℕ) (h : Whole) where
   unfolding withNode
   head-there k d = rw (ne-eqb k n d)
 
-  pub slot-here : (j : ℕ) → j / 8 ≡ n → slotOf (withNode v n h) j ≡ slotIn h j
+  pub slot-here : (j : ℕ) → j / 8 ≡ n → slotOf (withNode v n h) j ≡ slotOfWhole h j
   unfolding withNode
   slot-here j e = rw (eq-eqb (j / 8) n e)
 

@@ -52,11 +52,11 @@ module _ (m : List ℕ) where
   zone-placed j = refl
 
 -- so many bytes from p on in l, and from q on in m, make the same numbers
-abbrev pub Agree : ℕ → List ℕ → ℕ → List ℕ → ℕ → Type 0
-Agree size l p m q = (k d : ℕ) → d + k ≤ size → leAt k l (p + d) ≡ leAt k m (q + d)
+abbrev pub SameBytes : ℕ → List ℕ → ℕ → List ℕ → ℕ → Type 0
+SameBytes size l p m q = (k d : ℕ) → d + k ≤ size → leAt k l (p + d) ≡ leAt k m (q + d)
 
 module _ (l : List ℕ) (p : ℕ) (m : List ℕ) (q : ℕ) where
-  pub head-same : Agree headSize l p m q → headFrom l p ≡ headFrom m q
+  pub head-same : SameBytes headSize l p m q → headFrom l p ≡ headFrom m q
   head-same h =
       let e : p + 0 ≡ p = omega arith in
       let f : q + 0 ≡ q = omega arith in
@@ -65,7 +65,7 @@ module _ (l : List ℕ) (p : ℕ) (m : List ℕ) (q : ℕ) where
       let clear = ap (λ (x : ℕ). eqb x 0) (h 2 2 (omega arith)) in
       λ i. record { level = level i; occupied = occupied i; clear = clear i }
 
-  module _ (h : Agree (slotSize axisCount) l p m q) where
+  module _ (h : SameBytes (slotSize axisCount) l p m q) where
     span-same : (a : ℕ) → a < axisCount → slotSpan l p a ≡ slotSpan m q a
     span-same a less =
         let e : p + spanFrom a + 4 ≡ p + (spanFrom a + 4) = omega arith in
@@ -83,7 +83,7 @@ module _ (l : List ℕ) (p : ℕ) (m : List ℕ) (q : ℕ) where
         let clear = ap (λ (z : ℕ). eqb z 0) (h 3 (zerosFrom axisCount) (omega arith)) in
         λ i. record { bounds = record { x = x i; y = y i }; reference = ref i; zone = zone i; clear = clear i }
 
-pub header-same : (l m : List ℕ) → Agree headerSize l 0 m 0 → headerFrom l ≡ headerFrom m
+pub header-same : (l m : List ℕ) → SameBytes headerSize l 0 m 0 → headerFrom l ≡ headerFrom m
 header-same l m h =
     let count = h 2 0 (omega arith) in
     let root = h 2 2 (omega arith) in

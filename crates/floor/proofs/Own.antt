@@ -19,7 +19,7 @@ use Rattle.floor.specs.declared.Slot.{Slot}
 use Rattle.floor.specs.Layout.{axisCount, headSize, nodeSize, slotSize, spanFrom, refFrom, zoneFrom, zerosFrom}
 use Rattle.floor.specs.View.{spanAt, slotSpan, spanOn}
 use Rattle.floor.specs.Written.{spanBytes, spansBytes, slotBytes, headBytes, blank, Whole, slotsBytes, nodeBytes, headerBytes}
-use Rattle.floor.proofs.Fields.{headerFrom, headFrom, slotFrom, Agree}
+use Rattle.floor.proofs.Fields.{headerFrom, headFrom, slotFrom, SameBytes}
 
 -- what fits the bytes of a slot, of a node, and of a header
 pub record SlotFits (s : Slot) : Type 0 where
@@ -126,7 +126,7 @@ head-own level occupied rest =
     λ i. record { level = first i; occupied = second i; clear = true }
 
 slots-agree : (slots : List Slot) (n i : ℕ) → i < n
-    → Agree (slotSize axisCount) (slotsBytes slots n) (slotSize axisCount * i) (slotBytes (getD slots i blank)) 0
+    → SameBytes (slotSize axisCount) (slotsBytes slots n) (slotSize axisCount * i) (slotBytes (getD slots i blank)) 0
 unfolding slotsBytes
 slots-agree slots zero i h k d l = absurd (omega arith)
 slots-agree slots (suc n) i h k d l =
@@ -142,7 +142,7 @@ slots-agree slots (suc n) i h k d l =
 
 -- slot i of a node's bytes
 pub node-agree : (h : Whole) (i : ℕ) → i < 8
-    → Agree (slotSize axisCount) (nodeBytes h) (headSize + slotSize axisCount * i) (slotBytes (getD (h .slots) i blank)) 0
+    → SameBytes (slotSize axisCount) (nodeBytes h) (headSize + slotSize axisCount * i) (slotBytes (getD (h .slots) i blank)) 0
 node-agree h i less k d l =
     let e : headSize + slotSize axisCount * i + d ≡ 4 + (slotSize axisCount * i + d) = omega arith in
     rw e (le-after k (slotSize axisCount * i + d) (headBytes (h .level) (h .occupied)) (slotsBytes (h .slots) 8)

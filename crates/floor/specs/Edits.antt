@@ -9,8 +9,8 @@ use Rattle.floor.specs.Layout.{mapSize}
 use Rattle.floor.specs.View.{View, slotOf, spanOn}
 use Rattle.floor.specs.Written.{Whole, blank}
 
-abbrev pub slotIn : Whole → ℕ → Slot
-slotIn h j = getD (h .slots) (j % 8) blank
+abbrev pub slotOfWhole : Whole → ℕ → Slot
+slotOfWhole h j = getD (h .slots) (j % 8) blank
 
 -- node n written anew
 unfoldable pub withNode : View → ℕ → Whole → View
@@ -24,10 +24,10 @@ withNode v n h =
       level = λ k. cond (eqb k n) (h .level) (v .level k);
       occupied = λ k. cond (eqb k n) (h .occupied) (v .occupied k);
       nodeClear = λ k. cond (eqb k n) true (v .nodeClear k);
-      span = λ j a. cond (eqb (j / 8) n) (spanOn (slotIn h j .bounds) a) (v .span j a);
-      ref = λ j. cond (eqb (j / 8) n) (slotIn h j .reference) (v .ref j);
-      zone = λ j. cond (eqb (j / 8) n) (slotIn h j .zone) (v .zone j);
-      slotClear = λ j. cond (eqb (j / 8) n) (slotIn h j .clear) (v .slotClear j);
+      span = λ j a. cond (eqb (j / 8) n) (spanOn (slotOfWhole h j .bounds) a) (v .span j a);
+      ref = λ j. cond (eqb (j / 8) n) (slotOfWhole h j .reference) (v .ref j);
+      zone = λ j. cond (eqb (j / 8) n) (slotOfWhole h j .zone) (v .zone j);
+      slotClear = λ j. cond (eqb (j / 8) n) (slotOfWhole h j .clear) (v .slotClear j);
     }
 
 -- the header written anew; the length agrees with it
@@ -49,7 +49,7 @@ withHeader v count root height =
     }
 
 -- two views show the same
-pub record Alike (v w : View) : Type 0 where
+pub record SameView (v w : View) : Type 0 where
   pub size : v .size ≡ w .size
   pub count : v .count ≡ w .count
   pub root : v .root ≡ w .root

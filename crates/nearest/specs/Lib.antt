@@ -5,3 +5,4 @@ pub mod Reach
 pub mod Best
 pub mod Ground
 pub mod Searched
+pub mod Needed

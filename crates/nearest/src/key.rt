@@ -1,11 +1,9 @@
 // A bay of a map as one number, its key: how far it is and its slot, and the order of two of them.
 ghost use mathlib.Core.Path.{_≡_};
-ghost use mathlib.Core.Bool.{true};
-ghost use Prim.Native.Nat.{_*_, _<_};
-ghost use Rattle.floor.specs.View.{viewOf, filled, Shaped};
+ghost use Rattle.floor.specs.View.{viewOf};
 ghost use Rattle.nearest.specs.Shown.{distanceTo};
 ghost use Rattle.nearest.specs.Best.{keyOf, slotIn, farIn, sooner};
-ghost use Rattle.nearest.specs.Ground.{Ground};
+ghost use Rattle.nearest.specs.Needed.{SlotSeen, KeysSeen};
 use crate::slots::how_far;
 use floor::ref_of;
 use measure::HowFar;
@@ -29,7 +27,7 @@ impl Key {
 
 // The key of the bay in a filled slot.
 pub fn key_at(map: &[u8], p: Point, j: usize) -> Key
-    requires { ⌜ Ground (viewOf (now map)) p × (j < 8 * viewOf (now map) .count) × (filled (viewOf (now map)) j ≡ true) ⌝ }
+    requires { ⌜ SlotSeen (viewOf (now map)) p j ⌝ }
     ensures { λ r. ⌜ r .0 ≡ keyOf (distanceTo (viewOf (now (map .entry))) p) j ⌝ }
 {
     let number = 2048 * how_far(map, p, j).0 + j as u64;
@@ -38,11 +36,7 @@ pub fn key_at(map: &[u8], p: Point, j: usize) -> Key
 
 // Whether the bay of one key comes strictly before that of another; the map is read only where they are as near.
 pub fn is_sooner(map: &[u8], a: Key, b: Key) -> bool
-    requires { ⌜
-        Shaped (viewOf (now map))
-        × (slotIn (a .0) < 8 * viewOf (now map) .count)
-        × (slotIn (b .0) < 8 * viewOf (now map) .count)
-        ⌝ }
+    requires { ⌜ KeysSeen (viewOf (now map)) (a .0) (b .0) ⌝ }
     ensures { λ r. ⌜ r ≡ sooner (viewOf (now (map .entry))) (a .0) (b .0) ⌝ }
 {
     let far = a.far();

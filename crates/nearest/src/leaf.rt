@@ -1,12 +1,10 @@
 // The bays of a leaf, offered to the best list one by one, where it lies.
 ghost use mathlib.Core.Path.{_≡_};
-ghost use mathlib.Core.Bool.{true};
-ghost use Prim.Native.Nat.{_*_, _<_};
-ghost use Rattle.floor.specs.View.{viewOf, filled};
+ghost use Rattle.floor.specs.View.{viewOf};
 ghost use Rattle.tree.specs.Under.{nodeBays};
 ghost use Rattle.nearest.specs.Shown.{distanceTo};
-ghost use Rattle.nearest.specs.Best.{slotIn, listing, Carried};
-ghost use Rattle.nearest.specs.Ground.{Ground};
+ghost use Rattle.nearest.specs.Best.{listing};
+ghost use Rattle.nearest.specs.Needed.{SlotSeen, SlotOffered, LeafSeen};
 ghost use Rattle.nearest.specs.Asked.{wantedBy};
 ghost use Rattle.nearest.specs.Searched.{Searched, takenOf};
 use crate::best::sink;
@@ -21,7 +19,7 @@ use question::Question;
 
 // Whether the question wants the bay in a filled slot. A bay that is hidden from the badge is not measured.
 fn wants(map: &[u8], q: Question, j: usize) -> bool
-    requires { ⌜ Ground (viewOf (now map)) (q .from) × (j < 8 * viewOf (now map) .count) × (filled (viewOf (now map)) j ≡ true) ⌝ }
+    requires { ⌜ SlotSeen (viewOf (now map)) (q .from) j ⌝ }
     ensures { λ r. ⌜ r ≡ wantedBy (viewOf (now (map .entry))) (distanceTo (viewOf (now (map .entry))) (q .from)) q j ⌝ }
 {
     let slot = slot_of(map, j);
@@ -38,11 +36,7 @@ fn wants(map: &[u8], q: Question, j: usize) -> bool
 
 // Whether the bay in a slot goes into a list of len bays, of which the kth, if there is one, is last.
 fn takes(map: &[u8], q: Question, j: usize, len: usize, last: Key) -> bool
-    requires { ⌜
-        Ground (viewOf (now map)) (q .from)
-        × (j < 8 * viewOf (now map) .count)
-        × (slotIn (last .0) < 8 * viewOf (now map) .count)
-        ⌝ }
+    requires { ⌜ SlotOffered (viewOf (now map)) (q .from) j (last .0) ⌝ }
     ensures { λ r. ⌜ r ≡ takenOf (viewOf (now (map .entry))) (distanceTo (viewOf (now (map .entry))) (q .from)) q j len (last .0) ⌝ }
 {
     if is_filled(map, j) {
@@ -59,11 +53,7 @@ fn takes(map: &[u8], q: Question, j: usize, len: usize, last: Key) -> bool
 
 // Takes the slots of a leaf into a list of len bays, and answers how many it has then.
 pub fn leaf(map: &[u8], q: Question, node: usize, len: usize, keys: &mut [u64; 100]) -> usize
-    requires { ⌜
-        Ground (viewOf (now map)) (q .from)
-        × (node < viewOf (now map) .count)
-        × Carried (viewOf (now map)) (q .k) (listing (q .k) (now keys) len)
-        ⌝ }
+    requires { ⌜ LeafSeen (viewOf (now map)) q node (listing (q .k) (now keys) len) ⌝ }
     ensures { λ r. ⌜ Searched (viewOf (now (map .entry))) (distanceTo (viewOf (now (map .entry))) (q .from)) q (nodeBays (viewOf (now (map .entry))) 0 node) (listing (q .k) (now (keys .entry)) len) (listing (q .k) (now (keys .exit)) r) ⌝ }
 {
     let k = q.k;

@@ -1,11 +1,10 @@
 // The search down an accepted map: children nearest first, up to the first that is strictly farther than the kth bay.
-ghost use mathlib.Core.Path.{_≡_};
-ghost use Prim.Native.Nat.{_<_, _≤_};
+ghost use Prim.Native.Nat.{_<_};
 ghost use Rattle.floor.specs.View.{viewOf};
 ghost use Rattle.tree.specs.Under.{nodeBays};
 ghost use Rattle.nearest.specs.Shown.{distanceTo};
-ghost use Rattle.nearest.specs.Best.{noBays, Carried};
-ghost use Rattle.nearest.specs.Ground.{Ground};
+ghost use Rattle.nearest.specs.Best.{noBays};
+ghost use Rattle.nearest.specs.Needed.{Searchable, NodeSeen};
 ghost use Rattle.nearest.specs.Searched.{Searched, Found};
 use crate::best::Best;
 use crate::best::no_bays;
@@ -24,13 +23,7 @@ use question::Question;
 
 // The best list after all that is below a node above the leaves.
 pub fn search(map: &[u8], q: Question, node: usize, level: u8, best: Best) -> Best
-    requires { ⌜
-        Ground (viewOf (now map)) (q .from)
-        × (node < viewOf (now map) .count)
-        × (viewOf (now map) .level node ≡ level)
-        × (0 < level)
-        × Carried (viewOf (now map)) (q .k) best
-        ⌝ }
+    requires { ⌜ NodeSeen (viewOf (now map)) q node level best ⌝ }
     ensures { λ r. ⌜ Searched (viewOf (now (map .entry))) (distanceTo (viewOf (now (map .entry))) (q .from)) q (nodeBays (viewOf (now (map .entry))) level node) best r ⌝ }
 {
     let mut b = best;
@@ -56,7 +49,7 @@ pub fn search(map: &[u8], q: Question, node: usize, level: u8, best: Best) -> Be
 
 // The best list of a map that is one leaf. A function for this and for a leaf below `search` would copy the list.
 fn one_leaf(map: &[u8], q: Question, root: usize) -> Best
-    requires { ⌜ Ground (viewOf (now map)) (q .from) × (root < viewOf (now map) .count) × (1 ≤ q .k) × (q .k ≤ 100) ⌝ }
+    requires { ⌜ Searchable (viewOf (now map)) q × (root < viewOf (now map) .count) ⌝ }
     ensures { λ r. ⌜ Searched (viewOf (now (map .entry))) (distanceTo (viewOf (now (map .entry))) (q .from)) q (nodeBays (viewOf (now (map .entry))) 0 root) noBays r ⌝ }
 {
     let mut b = no_bays();
@@ -70,7 +63,7 @@ fn one_leaf(map: &[u8], q: Question, root: usize) -> Best
 
 // The page that a question asks for.
 pub fn nearest(map: &[u8], q: Question) -> Best
-    requires { ⌜ Ground (viewOf (now map)) (q .from) × (1 ≤ q .k) × (q .k ≤ 100) ⌝ }
+    requires { ⌜ Searchable (viewOf (now map)) q ⌝ }
     ensures { λ r. ⌜ Found (viewOf (now (map .entry))) (distanceTo (viewOf (now (map .entry))) (q .from)) q r ⌝ }
 {
     let root = root_of(map);

@@ -1,13 +1,11 @@
 // How far the slots of an accepted map are from a point, by the map's measure: a slot is measured here, and nowhere else.
 ghost use mathlib.Core.Path.{_≡_};
-ghost use mathlib.Core.Bool.{true};
-ghost use Prim.Native.Nat.{_*_, _<_};
 ghost use Rattle.measure.specs.Axis.{Ready};
 ghost use Rattle.measure.specs.Axes.{Each, minDist};
 ghost use Rattle.measure.specs.Answer.{axesOf};
-ghost use Rattle.floor.specs.View.{viewOf, filled};
+ghost use Rattle.floor.specs.View.{viewOf};
 ghost use Rattle.nearest.specs.Shown.{distanceTo};
-ghost use Rattle.nearest.specs.Ground.{Ground};
+ghost use Rattle.nearest.specs.Needed.{SlotSeen};
 use floor::bounds_of;
 use measure::Bounds;
 use measure::HowFar;
@@ -24,7 +22,7 @@ pub fn far_to(p: Point, b: Bounds) -> HowFar
 
 // How far the box of a filled slot is.
 pub fn how_far(map: &[u8], p: Point, j: usize) -> HowFar
-    requires { ⌜ Ground (viewOf (now map)) p × (j < 8 * viewOf (now map) .count) × (filled (viewOf (now map)) j ≡ true) ⌝ }
+    requires { ⌜ SlotSeen (viewOf (now map)) p j ⌝ }
     ensures { λ r. ⌜ r .0 ≡ distanceTo (viewOf (now (map .entry))) p j ⌝ }
 {
     far_to(p, bounds_of(map, j))

@@ -1,4 +1,4 @@
--- Lists that are joined part by part, and those that pass a test: when their elements are distinct, and when they have
+-- Lists that are joined part by part, and those that pass a test: when nothing stands twice in them, and when they have
 -- the same members. Assumes nothing.
 use Prim.Native.Nat.{ℕ, zero, suc, _<_}
 use native.Mathlib.Nat.{not-suc-le-zero}
@@ -8,7 +8,7 @@ use mathlib.Core.Logic.{⊎-elim}
 use mathlib.Core.Bool.{Bool}
 use mathlib.Core.List.{List, [], _∷_, _++_, List·Memᴰ, List·Memᴰ·head, List·Memᴰ·tail, List·Memᴰ·append-cases, Memᴰ·append-left, Memᴰ·append-right}
 use mathlib.Core.Path.{refl}
-use Rattle.order.specs.Order.{Apart, Cross, Distinct, Once, Disjoint, Same, only, gather}
+use Rattle.order.specs.Order.{Once, Disjoint, Same, only, gather}
 use Rattle.order.proofs.Place.{by-test}
 use Rattle.order.proofs.Only.{only-nil, only-yes, only-no, only-in, only-out, gather-each}
 
@@ -55,31 +55,3 @@ module _ {A : Type 0} where
       by-test (p x)
       (λ e. rw (only-yes p x xs e) ((λ m. d .0 (only-out p x xs m .0)), only-once p xs (d .1)))
       (λ e. rw (only-no p x xs e) (only-once p xs (d .1)))
-
-module _ {A : Type 0} (lt : A → A → Bool) where
-  distinct-append : (xs ys : List A) → Distinct lt xs → Distinct lt ys → Cross lt xs ys → Distinct lt (xs ++ ys)
-  unfolding Distinct
-  distinct-append [] ys d c h = c
-  distinct-append (x ∷ xs) ys d c h = (
-    (λ y m. ⊎-elim (d .0 y) (h x y (List·Memᴰ·head refl)) (List·Memᴰ·append-cases xs m)),
-    distinct-append xs ys (d .1) c (λ a b m n. h a b (List·Memᴰ·tail m) n),
-  )
-
-  -- parts that are distinct, each told apart from those after it
-  pub gather-distinct : (f : ℕ → List A) (n : ℕ) → ((i : ℕ) → i < n → Distinct lt (f i))
-      → ((i j : ℕ) → i < j → j < n → Cross lt (f i) (f j)) → Distinct lt (gather f n)
-  unfolding gather Distinct
-  gather-distinct f zero d c = tt
-  gather-distinct f (suc n) d c =
-      distinct-append (gather f n) (f n)
-      (gather-distinct f n (λ i h. d i (omega arith)) (λ i j h k. c i j h (omega arith)))
-      (d n (omega arith))
-      (λ x y m k. gather-each (λ z. Apart lt z y) f n (λ i h z q. c i n h (omega arith) z y q k) x m)
-
-  pub only-distinct : (p : A → Bool) (l : List A) → Distinct lt l → Distinct lt (only p l)
-  unfolding Distinct
-  only-distinct p [] d = rw (only-nil p) tt
-  only-distinct p (x ∷ xs) d =
-      by-test (p x)
-      (λ e. rw (only-yes p x xs e) ((λ y m. d .0 y (only-out p y xs m .0)), only-distinct p xs (d .1)))
-      (λ e. rw (only-no p x xs e) (only-distinct p xs (d .1)))

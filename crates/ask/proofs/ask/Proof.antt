@@ -52,9 +52,12 @@ fill-page-requires c κs =
     let s = e .before .before .before .before .before in
     let good = own-good (s .args .q) (length (now (s .args .room))) (own-none e) in
     record {
-      ground = record { keeps = accepted-keeps (now (s .args .map)) (map-good (c .before)); point = good .point };
-      k-low = good .k-low;
-      k-high = good .k-high;
+      search =
+          record {
+            ground = record { keeps = accepted-keeps (now (s .args .map)) (map-good (c .before)); point = good .point };
+            k-low = good .k-low;
+            k-high = good .k-high;
+          };
       fits = good .fits;
     }
 

@@ -15,12 +15,12 @@ use Rattle.ask.proofs.page.fill_page.Tie as tie
 use mathlib.Core.List.{List}
 
 nearest-requires : tie.Need-nearest-requires
-nearest-requires c κs = let s = c .before .before in (s .pre .ground, s .pre .k-low, s .pre .k-high)
+nearest-requires c κs = let s = c .before .before in s .pre .search
 
 write-page-requires : tie.Need-write-page-requires
 write-page-requires c κs =
     let s = c .before .before .before .before in
-    (ground-shaped (viewOf (now (s .args .map))) (s .args .q .from) (s .pre .ground), c .before .nearest .ensures .carried, s .pre .fits)
+    (ground-shaped (viewOf (now (s .args .map))) (s .args .q .from) (s .pre .search .ground), c .before .nearest .ensures .carried, s .pre .fits)
 
 same-length : tie.Need-same-length
 same-length c = search needs
@@ -33,7 +33,7 @@ returns c =
     let q = s .args .q in
     let f = n .nearest .ensures in
     let is : toldOf v (n .nearest .result) ≡ pageOf (now (s .args .map)) q =
-    told-page v (distanceTo v (q .from)) q (n .nearest .result) (s .pre .ground .keeps) f in
+    told-page v (distanceTo v (q .from)) q (n .nearest .result) (s .pre .search .ground .keeps) f in
     record {
       count = sym (told-length v (q .k) (n .nearest .result) (f .carried)) ∙ ap length is;
       bytes = c .before .before .write-page .ensures ∙ ap (λ (rs : List Record). roomWith (q .k) rs (now (s .args .room))) is;

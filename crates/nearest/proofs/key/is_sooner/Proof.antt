@@ -20,13 +20,13 @@ slot-requires : tie.Need-slot-requires
 slot-requires c κs = search needs
 
 ref-of-requires : tie.Need-ref-of-requires
-ref-of-requires c κs = let s = c .before .before .before .before .before .before .before in (s .pre .0, rw (c .slot .ensures) (s .pre .1))
+ref-of-requires c κs = let s = c .before .before .before .before .before .before .before in (s .pre .shaped, rw (c .slot .ensures) (s .pre .first))
 
 slot-requires-2 : tie.Need-slot-requires-2
 slot-requires-2 c κs = search needs
 
 ref-of-requires-2 : tie.Need-ref-of-requires-2
-ref-of-requires-2 c κs = let s = c .before .before .before .before .before .before .before .before .before in (s .pre .0, rw (c .slot2 .ensures) (s .pre .2))
+ref-of-requires-2 c κs = let s = c .before .before .before .before .before .before .before .before .before in (s .pre .shaped, rw (c .slot2 .ensures) (s .pre .second))
 
 returns : tie.Need-returns
 unfolding before

@@ -15,13 +15,13 @@ mul-number : tie.Need-mul-number
 mul-number c =
     let s = c .before .before .before in
     let v = viewOf (now (s .args .map)) in
-    omega (arith, c .before .how-far .ensures, distance-small v (s .args .p) (s .pre .0) (s .args .j) (s .pre .1) (s .pre .2))
+    omega (arith, c .before .how-far .ensures, distance-small v (s .args .p) (s .pre .ground) (s .args .j) (s .pre .inside) (s .pre .there))
 
 add-number : tie.Need-add-number
 add-number c =
     let s = c .before .before .before in
     let v = viewOf (now (s .args .map)) in
-    omega (arith, c .before .how-far .ensures, distance-small v (s .args .p) (s .pre .0) (s .args .j) (s .pre .1) (s .pre .2), s .pre .1, ground-shaped v (s .args .p) (s .pre .0) .few)
+    omega (arith, c .before .how-far .ensures, distance-small v (s .args .p) (s .pre .ground) (s .args .j) (s .pre .inside) (s .pre .there), s .pre .inside, ground-shaped v (s .args .p) (s .pre .ground) .few)
 
 returns : tie.Need-returns
 returns c = rw (c .before .how-far .ensures)

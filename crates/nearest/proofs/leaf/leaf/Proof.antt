@@ -40,9 +40,9 @@ unfolding gather
 loop-holds c =
     let s = c .before in
     let v = viewOf (now (s .args .map)) in
-    let few : v .count ≤ 256 = ground-shaped v (s .args .q .from) (s .pre .0) .few in
-    let low : s .args .node < v .count = s .pre .1 in
-    (omega arith, omega arith, searched-none v (distanceTo v (s .args .q .from)) (s .args .q) (listing (s .args .q .k) (now (s .args .keys)) (s .args .len)) (s .pre .2))
+    let few : v .count ≤ 256 = ground-shaped v (s .args .q .from) (s .pre .ground) .few in
+    let low : s .args .node < v .count = s .pre .inside in
+    (omega arith, omega arith, searched-none v (distanceTo v (s .args .q .from)) (s .args .q) (listing (s .args .q .k) (now (s .args .keys)) (s .args .len)) (s .pre .carried))
 
 mul-j : tie.Need-mul-j Inv-loop μ-loop
 mul-j c = omega arith
@@ -51,35 +51,35 @@ add-j : tie.Need-add-j Inv-loop μ-loop
 add-j c = omega arith
 
 sub-last : tie.Need-sub-last Inv-loop μ-loop
-sub-last c = c .before .before .before .pre .2 .low
+sub-last c = c .before .before .before .pre .carried .low
 
 mul-last : tie.Need-mul-last Inv-loop μ-loop
-mul-last c = omega (arith, c .before .before .before .pre .2 .high)
+mul-last c = omega (arith, c .before .before .before .pre .carried .high)
 
 element-copy-out-last : tie.Need-element-copy-out-last Inv-loop μ-loop
-element-copy-out-last c = let k = c .before .before .before .pre .2 in omega (arith, k .low, k .high, k .room)
+element-copy-out-last c = let k = c .before .before .before .pre .carried in omega (arith, k .low, k .high, k .room)
 
 takes-requires : tie.Need-takes-requires Inv-loop μ-loop
 takes-requires c κs =
     let l = c .before .before .loop in
     let s = c .before .before .before .before in
-    let low : s .args .node < viewOf (now (s .args .map)) .count = s .pre .1 in
-    (s .pre .0, omega arith, l .inv .2 .carried .slots (s .args .q .k - 1))
+    let low : s .args .node < viewOf (now (s .args .map)) .count = s .pre .inside in
+    record { ground = s .pre .ground; inside = omega arith; last-inside = l .inv .2 .carried .slots (s .args .q .k - 1) }
 
 add-up : tie.Need-add-up Inv-loop μ-loop
 add-up c = omega arith
 
 sub-sink : tie.Need-sub-sink Inv-loop μ-loop
 sub-sink c =
-    let k = c .before .before .before .before .before .before .before .before .before .pre .2 .low in
+    let k = c .before .before .before .before .before .before .before .before .before .pre .carried .low in
     ⊎-elim (λ w. omega (arith, w .1)) (λ w. omega (arith, k, w .0 .left, w .1)) (c .before .before .if2 .came)
 
 key-at-requires : tie.Need-key-at-requires Inv-loop μ-loop
 key-at-requires c κs =
     let t = c .before .before .before in
     let s = t .before .before .before .before .before .before in
-    let low : s .args .node < viewOf (now (s .args .map)) .count = s .pre .1 in
-    (s .pre .0, omega arith, both _ _ (sym (t .before .takes .ensures) ∙ t .if1 .taken) .0)
+    let low : s .args .node < viewOf (now (s .args .map)) .count = s .pre .inside in
+    record { ground = s .pre .ground; inside = omega arith; there = both _ _ (sym (t .before .takes .ensures) ∙ t .if1 .taken) .0 }
 
 sink-requires : tie.Need-sink-requires Inv-loop μ-loop
 sink-requires c κs =
@@ -88,20 +88,21 @@ sink-requires c κs =
     let s = t .before .before .before .before .before .before in
     let v = viewOf (now (s .args .map)) in
     let held = l .inv .2 .carried in
-    let shaped = ground-shaped v (s .args .q .from) (s .pre .0) in
-    let low : s .args .node < v .count = s .pre .1 in
+    let shaped = ground-shaped v (s .args .q .from) (s .pre .ground) in
+    let low : s .args .node < v .count = s .pre .inside in
     let j : ℕ = 8 * s .args .node + l .i in
     let up : c .before .before .before .if2 .up - 1 ≤ l .up =
     ⊎-elim (λ w. omega (arith, w .1)) (λ w. omega (arith, w .1)) (c .before .before .before .if2 .came) in
     let small : c .before .before .before .if2 .up - 1 < 100 =
-    ⊎-elim (λ w. omega (arith, held .high, w .0 .taken, w .1)) (λ w. omega (arith, held .low, held .high, held .fits, w .1)) (c .before .before .before .if2 .came) in (
-      shaped,
-      small,
-      held .room,
-      rw (c .key-at .ensures, slot-back (distanceTo v (s .args .q .from)) j (omega (arith, shaped .few))) (omega arith),
-      held .slots,
-      part-sorted v (c .before .before .before .if2 .up - 1) (l .up) (l .keys) up (held .sorted),
-    )
+    ⊎-elim (λ w. omega (arith, held .high, w .0 .taken, w .1)) (λ w. omega (arith, held .low, held .high, held .fits, w .1)) (c .before .before .before .if2 .came) in
+    record {
+      shaped = shaped;
+      few = small;
+      long = held .room;
+      inside = rw (c .key-at .ensures, slot-back (distanceTo v (s .args .q .from)) j (omega (arith, shaped .few))) (omega arith);
+      slots = held .slots;
+      sorted = part-sorted v (c .before .before .before .if2 .up - 1) (l .up) (l .keys) up (held .sorted);
+    }
 
 add-i : tie.Need-add-i Inv-loop μ-loop
 add-i c = omega arith
@@ -122,9 +123,9 @@ loop-again c =
     ⊎-elim
     (λ w. rw (w .6, w .7)
     (slot-taken v d q (s .args .node) (l .i) (l .keys) (l .up) held _ (w .1 .up)
-    (sym (c .before .takes .ensures) ∙ w .0 .taken) (w .5 .ensures .0) (w .5 .ensures .1)
+    (sym (c .before .takes .ensures) ∙ w .0 .taken) (w .5 .ensures .long) (w .5 .ensures .slots)
     (⊎-elim (λ g. inl (g .0 .taken, g .1)) (λ g. inr (g .0 .left, g .1)) (w .1 .came))
-    (w .5 .ensures .2 ∙ ap (λ key. place (sooner v) key (take (w .1 .up - 1) (l .keys))) (w .4 .ensures))))
+    (w .5 .ensures .placed ∙ ap (λ key. place (sooner v) key (take (w .1 .up - 1) (l .keys))) (w .4 .ensures))))
     (λ w. rw (w .1, w .2)
     (slot-left v d q (s .args .node) (l .i) (l .keys) (l .up) held (sym (c .before .takes .ensures) ∙ w .0 .left)))
     (c .if1 .came) in (

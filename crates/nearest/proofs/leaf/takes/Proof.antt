@@ -15,10 +15,10 @@ use Rattle.nearest.proofs.leaf.takes.Statement.{statement}
 use Rattle.nearest.proofs.leaf.takes.Tie as tie
 
 is-filled-requires : tie.Need-is-filled-requires
-is-filled-requires c κs = let s = c .before in (ground-shaped (viewOf (now (s .args .map))) (s .args .q .from) (s .pre .0), s .pre .1)
+is-filled-requires c κs = let s = c .before in (ground-shaped (viewOf (now (s .args .map))) (s .args .q .from) (s .pre .ground), s .pre .inside)
 
 wants-requires : tie.Need-wants-requires
-wants-requires c κs = let s = c .before .before .before in (s .pre .0, s .pre .1, sym (c .before .is-filled .ensures) ∙ c .if1 .taken)
+wants-requires c κs = let s = c .before .before .before in record { ground = s .pre .ground; inside = s .pre .inside; there = sym (c .before .is-filled .ensures) ∙ c .if1 .taken }
 
 returns : tie.Need-returns
 returns c =
@@ -34,15 +34,19 @@ key-at-requires : tie.Need-key-at-requires
 key-at-requires c κs =
     let t = c .before .before .before .before in
     let s = t .before .before .before in
-    (s .pre .0, s .pre .1, sym (t .before .is-filled .ensures) ∙ t .if1 .taken)
+    record { ground = s .pre .ground; inside = s .pre .inside; there = sym (t .before .is-filled .ensures) ∙ t .if1 .taken }
 
 is-sooner-requires : tie.Need-is-sooner-requires
 is-sooner-requires c κs =
     let s = c .before .before .before .before .before .before .before .before in
     let q = s .args .q in
     let v = viewOf (now (s .args .map)) in
-    let shaped = ground-shaped v (q .from) (s .pre .0) in
-    (shaped, rw (c .key-at .ensures, slot-back (distanceTo v (q .from)) (s .args .j) (omega (arith, s .pre .1, shaped .few))) (s .pre .1), s .pre .2)
+    let shaped = ground-shaped v (q .from) (s .pre .ground) in
+    record {
+      shaped = shaped;
+      first = rw (c .key-at .ensures, slot-back (distanceTo v (q .from)) (s .args .j) (omega (arith, s .pre .inside, shaped .few))) (s .pre .inside);
+      second = s .pre .last-inside;
+    }
 
 returns-2 : tie.Need-returns-2
 returns-2 c =

@@ -16,7 +16,7 @@ use Rattle.nearest.proofs.leaf.wants.Statement.{statement}
 use Rattle.nearest.proofs.leaf.wants.Tie as tie
 
 slot-of-requires : tie.Need-slot-of-requires
-slot-of-requires c κs = let s = c .before in (ground-shaped (viewOf (now (s .args .map))) (s .args .q .from) (s .pre .0), s .pre .1)
+slot-of-requires c κs = let s = c .before in (ground-shaped (viewOf (now (s .args .map))) (s .args .q .from) (s .pre .ground), s .pre .inside)
 
 contains-requires : tie.Need-contains-requires
 contains-requires c κs = search needs
@@ -24,7 +24,7 @@ contains-requires c κs = search needs
 far-to-requires : tie.Need-far-to-requires
 far-to-requires c κs =
     let s = c .before .before .before .before in
-    rw (c .before .before .slot-of .ensures) (slot-ready (viewOf (now (s .args .map))) (s .args .q .from) (s .pre .0) (s .args .j) (s .pre .1) (s .pre .2))
+    rw (c .before .before .slot-of .ensures) (slot-ready (viewOf (now (s .args .map))) (s .args .q .from) (s .pre .ground) (s .args .j) (s .pre .inside) (s .pre .there))
 
 is-before-requires : tie.Need-is-before-requires
 is-before-requires c κs = search needs

@@ -12,7 +12,7 @@ is-filled-requires : tie.Need-is-filled-requires
 is-filled-requires c κs = let s = c .before in (ground-shaped (viewOf (now (s .args .map))) (s .args .p) (s .pre .0), s .pre .1)
 
 how-far-requires : tie.Need-how-far-requires
-how-far-requires c κs = let s = c .before .before .before in (s .pre .0, s .pre .1, sym (c .before .is-filled .ensures) ∙ c .if1 .taken)
+how-far-requires c κs = let s = c .before .before .before in record { ground = s .pre .0; inside = s .pre .1; there = sym (c .before .is-filled .ensures) ∙ c .if1 .taken }
 
 returns : tie.Need-returns
 unfolding gapOf

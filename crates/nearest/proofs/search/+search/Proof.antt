@@ -81,7 +81,7 @@ abbrev μ-loop : search-lts.MeasureT-loop
 μ-loop map q node level b₀ ds₀ j₀ b ds j = countBelow (openAt ds) 8
 
 gaps-requires : (t : ℕ) → search-lts.Need-gaps-requires (claims t) (search-at t) search′.Post Inv-loop μ-loop
-gaps-requires t c κs = let s = c .before in (s .pre .1 .0, s .pre .1 .1)
+gaps-requires t c κs = let s = c .before in (s .pre .1 .ground, s .pre .1 .inside)
 
 least-requires : (t : ℕ) → search-lts.Need-least-requires (claims t) (search-at t) search′.Post Inv-loop μ-loop
 least-requires t c κs = search needs
@@ -92,8 +92,8 @@ loop-holds t c =
     let q = s .args .q in
     let v = viewOf (now (s .args .map)) in
     let d = distanceTo v (q .from) in
-    let ground = s .pre .1 .0 in
-    let low : s .args .node < v .count = s .pre .1 .1 in
+    let ground = s .pre .1 .ground in
+    let low : s .args .node < v .count = s .pre .1 .inside in
     let few : v .count ≤ 256 = ground-shaped v (q .from) ground .few in
     let g = c .before .gaps .ensures in (
       g .long,
@@ -101,7 +101,7 @@ loop-holds t c =
       omega arith,
       c .least .ensures .1,
       marks-start v d (s .args .node) (c .before .gaps .result) g,
-      visits-none v d q (s .args .level) (s .args .node) (ground .keeps) low (s .pre .1 .2) (λ i h f. omega (arith, distance-small v (q .from) ground i h f)) (c .before .gaps .result) (s .args .best) g (s .pre .1 .4),
+      visits-none v d q (s .args .level) (s .args .node) (ground .keeps) low (s .pre .1 .is-level) (λ i h f. omega (arith, distance-small v (q .from) ground i h f)) (c .before .gaps .result) (s .args .best) g (s .pre .1 .carried),
     )
 
 mul-opens : (t : ℕ) → search-lts.Need-mul-opens (claims t) (search-at t) search′.Post Inv-loop μ-loop
@@ -123,9 +123,9 @@ ref-of-requires : (t : ℕ) → search-lts.Need-ref-of-requires (claims t) (sear
 ref-of-requires t c κs =
     let s = c .before .before .before .before .before .before .before .before in
     let v = viewOf (now (s .args .map)) in
-    let low : s .args .node < v .count = s .pre .1 .1 in
+    let low : s .args .node < v .count = s .pre .1 .inside in
     let j : c .before .before .before .before .loop .j < 8 = c .before .before .before .before .loop .inv .1 in
-    (ground-shaped v (s .args .q .from) (s .pre .1 .0), omega arith)
+    (ground-shaped v (s .args .q .from) (s .pre .1 .ground), omega arith)
 
 cast-child : (t : ℕ) → search-lts.Need-cast-child (claims t) (search-at t) search′.Post Inv-loop μ-loop
 cast-child t c = search needs
@@ -137,8 +137,12 @@ leaf-requires t c κs =
     let s = th .before .before .before .before .before .before .before .before in
     let v = viewOf (now (s .args .map)) in
     let f = l .inv .4 (l .j) (l .inv .1) (opened-there (getD (l .ds) (l .j) none .0) (l .b .worst .0) (th .before .opens .ensures) (th .if1 .taken)) .0 in
-    let there = child-there v (keeps-treelike (s .pre .1 .0 .keeps)) (s .args .level) (s .args .node) (l .j) (s .pre .1 .1) (s .pre .1 .2) (s .pre .1 .3) (l .inv .1) f in
-    (s .pre .1 .0, rw (c .before .before .ref-of .ensures) there, listed v (s .args .q .k) (l .b) (l .inv .5 .carried))
+    let there = child-there v (keeps-treelike (s .pre .1 .ground .keeps)) (s .args .level) (s .args .node) (l .j) (s .pre .1 .inside) (s .pre .1 .is-level) (s .pre .1 .above) (l .inv .1) f in
+    record {
+      ground = s .pre .1 .ground;
+      inside = rw (c .before .before .ref-of .ensures) there;
+      carried = listed v (s .args .q .k) (l .b) (l .inv .5 .carried);
+    }
 
 sub-last : (t : ℕ) → search-lts.Need-sub-last (claims t) (search-at t) search′.Post Inv-loop μ-loop
 sub-last t c = c .before .leaf .ensures .carried .low
@@ -161,15 +165,23 @@ search-requires t c κs =
     let l = th .before .before .before .before .loop in
     let s = th .before .before .before .before .before .before .before .before in
     let v = viewOf (now (s .args .map)) in
-    let keeps = s .pre .1 .0 .keeps in
+    let keeps = s .pre .1 .ground .keeps in
     let d = distanceTo v (s .args .q .from) in
-    let up : 0 < s .args .level = s .pre .1 .3 in
+    let up : 0 < s .args .level = s .pre .1 .above in
     let mea : s .args .level ≡ t = s .pre .0 in
     let ne : s .args .level ≡ 1 → ⊥ = c .if2 .left in
     let f = l .inv .4 (l .j) (l .inv .1) (opened-there (getD (l .ds) (l .j) none .0) (l .b .worst .0) (th .before .opens .ensures) (th .if1 .taken)) .0 in
-    let there = child-there v (keeps-treelike keeps) (s .args .level) (s .args .node) (l .j) (s .pre .1 .1) (s .pre .1 .2) up (l .inv .1) f in
-    let falls = child-level v (keeps-treelike keeps) (s .args .level) (s .args .node) (l .j) (s .pre .1 .1) (s .pre .1 .2) up (l .inv .1) f in
-    (omega arith, (s .pre .1 .0, rw (c .before .ref-of .ensures) there, rw (c .before .ref-of .ensures) falls, omega arith, l .inv .5 .carried))
+    let there = child-there v (keeps-treelike keeps) (s .args .level) (s .args .node) (l .j) (s .pre .1 .inside) (s .pre .1 .is-level) up (l .inv .1) f in
+    let falls = child-level v (keeps-treelike keeps) (s .args .level) (s .args .node) (l .j) (s .pre .1 .inside) (s .pre .1 .is-level) up (l .inv .1) f in (
+      omega arith,
+      record {
+        ground = s .pre .1 .ground;
+        inside = rw (c .before .ref-of .ensures) there;
+        is-level = rw (c .before .ref-of .ensures) falls;
+        above = omega arith;
+        carried = l .inv .5 .carried;
+      },
+    )
 
 mul-ds : (t : ℕ) → search-lts.Need-mul-ds (claims t) (search-at t) search′.Post Inv-loop μ-loop
 mul-ds t c = omega arith
@@ -194,14 +206,14 @@ loop-again t c =
     let s = th .before .before .before .before .before .before .before .before in
     let q = s .args .q in
     let v = viewOf (now (s .args .map)) in
-    let keeps = s .pre .1 .0 .keeps in
+    let keeps = s .pre .1 .ground .keeps in
     let d = distanceTo v (q .from) in
     let level = s .args .level in
     let node = s .args .node in
     let j = l .j in
     let goes = opened-there (getD (l .ds) j none .0) (l .b .worst .0) (th .before .opens .ensures) (th .if1 .taken) in
     let f = l .inv .4 j (l .inv .1) goes .0 in
-    let down = part-down v (keeps-treelike keeps) level node j (s .pre .1 .1) (s .pre .1 .2) (s .pre .1 .3) (l .inv .1) f in
+    let down = part-down v (keeps-treelike keeps) level node j (s .pre .1 .inside) (s .pre .1 .is-level) (s .pre .1 .above) (l .inv .1) f in
     let child : c .before .before .ref-of .result ≡ v .ref (8 * node + j) = c .before .before .ref-of .ensures in
     let step : Searched v d q (partBays v level node j) (l .b) (c .before .if2 .b) =
     ⊎-elim
@@ -214,7 +226,7 @@ loop-again t c =
       l .inv .2,
       c .least2 .ensures .1,
       marks-next v d node (l .ds) j (l .inv .0) (l .inv .1) (l .inv .4),
-      visits-one v d q level node keeps (s .pre .1 .1) (s .pre .1 .2) (l .ds) j (s .args .best) (l .b) (c .before .if2 .b) (l .inv .0) (l .inv .1) goes (l .inv .5) step,
+      visits-one v d q level node keeps (s .pre .1 .inside) (s .pre .1 .is-level) (l .ds) j (s .args .best) (l .b) (c .before .if2 .b) (l .inv .0) (l .inv .1) goes (l .inv .5) step,
     )
 
 returns : (t : ℕ) → search-lts.Need-returns (claims t) (search-at t) search′.Post Inv-loop μ-loop
@@ -223,8 +235,8 @@ returns t c =
     let s = c .before .before .before .before .before .before .before .before in
     let q = s .args .q in
     let v = viewOf (now (s .args .map)) in
-    let keeps = s .pre .1 .0 .keeps in
-    visits-stop v (distanceTo v (q .from)) q (s .args .level) (s .args .node) keeps (s .pre .1 .1) (s .pre .1 .2) (distance-grows v keeps (q .from)) (l .ds) (l .j) (s .args .best) (l .b) (l .inv .4) (l .inv .3)
+    let keeps = s .pre .1 .ground .keeps in
+    visits-stop v (distanceTo v (q .from)) q (s .args .level) (s .args .node) keeps (s .pre .1 .inside) (s .pre .1 .is-level) (distance-grows v keeps (q .from)) (l .ds) (l .j) (s .args .best) (l .b) (l .inv .4) (l .inv .3)
     (sym (c .before .opens .ensures) ∙ c .if1 .left) (l .inv .5)
 
 pub +search-spec : {M : Type 1} → statement M

@@ -18,8 +18,13 @@ leaf-requires : tie.Need-leaf-requires
 leaf-requires c κs =
     let s = c .before .before .before in
     let v = viewOf (now (s .args .map)) in
-    let shaped = ground-shaped v (s .args .q .from) (s .pre .0) in
-    (s .pre .0, s .pre .1, rw (c .before .no-bays .ensures) (listed v (s .args .q .k) noBays (no-bays-carried v (s .args .q .k) shaped (s .pre .2) (s .pre .3))))
+    let shaped = ground-shaped v (s .args .q .from) (s .pre .0 .ground) in
+    record {
+      ground = s .pre .0 .ground;
+      inside = s .pre .1;
+      carried =
+          rw (c .before .no-bays .ensures) (listed v (s .args .q .k) noBays (no-bays-carried v (s .args .q .k) shaped (s .pre .0 .k-low) (s .pre .0 .k-high)));
+    }
 
 sub-last : tie.Need-sub-last
 sub-last c = c .before .leaf .ensures .carried .low

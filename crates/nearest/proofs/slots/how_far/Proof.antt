@@ -9,12 +9,12 @@ use Rattle.nearest.proofs.slots.how_far.Statement.{statement}
 use Rattle.nearest.proofs.slots.how_far.Tie as tie
 
 bounds-of-requires : tie.Need-bounds-of-requires
-bounds-of-requires c κs = let s = c .before in (ground-shaped (viewOf (now (s .args .map))) (s .args .p) (s .pre .0), s .pre .1)
+bounds-of-requires c κs = let s = c .before in (ground-shaped (viewOf (now (s .args .map))) (s .args .p) (s .pre .ground), s .pre .inside)
 
 far-to-requires : tie.Need-far-to-requires
 far-to-requires c κs =
     let s = c .before .before in
-    rw (c .bounds-of .ensures) (slot-ready (viewOf (now (s .args .map))) (s .args .p) (s .pre .0) (s .args .j) (s .pre .1) (s .pre .2))
+    rw (c .bounds-of .ensures) (slot-ready (viewOf (now (s .args .map))) (s .args .p) (s .pre .ground) (s .args .j) (s .pre .inside) (s .pre .there))
 
 returns : tie.Need-returns
 returns c =
