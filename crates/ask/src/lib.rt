@@ -1,6 +1,9 @@
 // The question and its reply: the refusals in document 01's order, on the program's own checking, then the search, and
 // the page in the answer room. `ask` is for anyone, and has no `requires`; it is made of what a question is refused for by
 // itself (`own_answer`), the yes or no of the check (`is_accepted`) and the page on an accepted map (`fill_page`).
+
+#![tactic(auto)]
+
 mod page;
 
 ghost use Rattle.std.specs.Prelude.{◌≡◌};
@@ -12,7 +15,7 @@ use record::SIZE;
 use rules::check;
 
 // What a question is answered: `answer_number` and `answer_found` give document 01's numbers for each case.
-#[derive(Drop)]
+#[derive(Clone, Copy)]
 pub enum Answer {
     PointOutside,
     CountOutside,

@@ -7,7 +7,7 @@ ghost use Rattle.bays.specs.Certificate.{entry_ref, home_of, walk_of, step_of, s
 use crate::is_bay;
 
 // How a table is laid out: by a spread of the bay number, or in the order of bay numbers.
-#[derive(Drop)]
+#[derive(Clone, Copy)]
 pub enum Way {
     Hashed,
     Sorted,

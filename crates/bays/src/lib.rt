@@ -3,6 +3,9 @@
 // where numbers crowd, by a radix sort. Where both checks fail, the caller falls back to `is_lone`, the definition itself.
 // The map check calls this; it knows maps through `floor` alone. Its functions have a `requires`: the header rule has
 // been tried before, and a slot or a table is inside its bounds.
+
+#![tactic(auto)]
+
 mod certificate;
 mod table;
 

@@ -1,5 +1,8 @@
 // Document 01's figures: the starred ones stand in one table in specs/, settled from the definitions by one proof, and
 // this program runs all of them through the functions and prints what they give. Nothing calls it.
+
+#![tactic(auto)]
+
 mod lines;
 mod maps;
 

@@ -1,6 +1,9 @@
 // The bytes of a floor map as a view: the header's fields, a node's by its number, a slot's by its flat number
 // j = 8 · node + i. Nothing outside this crate knows an offset. The map check and the search read maps through it.
 // Its functions have a `requires`, since a field is read only where the header rule has shown that it is there.
+
+#![tactic(auto)]
+
 mod layout;
 mod place;
 mod write;
@@ -17,7 +20,7 @@ use words::{i32_at, u16_at, u32_at};
 pub use write::{put_header, put_node, put_slot};
 
 // What stands in a slot, filled or not.
-#[derive(Drop)]
+#[derive(Clone, Copy)]
 pub struct Slot {
     pub bounds: Bounds,
     pub reference: u32,
@@ -26,7 +29,7 @@ pub struct Slot {
 }
 
 // The header's fields.
-#[derive(Drop)]
+#[derive(Clone, Copy)]
 pub struct Header {
     pub count: usize,
     pub root: usize,
@@ -35,7 +38,7 @@ pub struct Header {
 }
 
 // A node's fields before its slots.
-#[derive(Drop)]
+#[derive(Clone, Copy)]
 pub struct Node {
     pub level: u8,
     pub occupied: u8,

@@ -1,5 +1,8 @@
 // The map check for service staff: reads floor.map in the folder that it is run in, and prints the rule's number and the
 // node's, 0 and 0 for a map that keeps every rule. It only reads and writes; `rules::check` has the meaning.
+
+#![tactic(auto)]
+
 use libc::STDOUT_FILENO;
 
 fn main() {

@@ -1,5 +1,8 @@
 // The file floor.map, read in the folder that a program is run in. The programs call it; what its bytes mean is said
 // elsewhere, and what is read is run and not proved.
+
+#![tactic(auto)]
+
 ghost use Rattle.io.specs.Counts.{IsPrefixLen};
 
 // The bytes of floor.map, none where it is missing or cannot be read. One byte more than the longest map is enough to

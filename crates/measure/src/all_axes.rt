@@ -7,7 +7,7 @@ ghost use Rattle.measure.specs.Answer.{measured_by, measure_of, reading_of};
 use crate::{Axis, Measured, SquaredMm};
 
 // Which measure is asked for.
-#[derive(Drop)]
+#[derive(Clone, Copy)]
 pub enum Kind {
     Min,
     MinMax,

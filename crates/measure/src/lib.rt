@@ -1,6 +1,9 @@
 // The three measures of document 01: MINDIST and MINMAXDIST of a point and a box, and the plain distance.
 // A squared distance and a length are different types, and only `plain` turns one into the other.
 // Any crate that measures calls this one; it knows nothing of maps, bays or badges.
+
+#![tactic(auto)]
+
 mod all_axes;
 mod one_axis;
 mod root;
@@ -14,16 +17,16 @@ use all_axes::{Kind, judged, min_over};
 pub use root::plain;
 
 // A squared distance, in square millimetres.
-#[derive(Drop)]
+#[derive(Clone, Copy)]
 pub struct SquaredMm(pub u64);
 
 // A length, in millimetres.
-#[derive(Drop)]
+#[derive(Clone, Copy)]
 pub struct Mm(pub u64);
 
 // How far a box is from a point, by the measure of the map that it stands on: the number in a mark, in a record and in the
 // best list. It is made of what a measure gives, and becomes that again, and nothing else.
-#[derive(Drop)]
+#[derive(Clone, Copy)]
 pub struct HowFar(pub u64);
 
 impl HowFar {
@@ -41,35 +44,35 @@ impl HowFar {
 }
 
 // A place on the floor, in millimetres.
-#[derive(Drop)]
+#[derive(Clone, Copy)]
 pub struct Point {
     pub x: i32,
     pub y: i32,
 }
 
 // From low to high on one axis, both ends included, in millimetres.
-#[derive(Drop)]
+#[derive(Clone, Copy)]
 pub struct Span {
     pub low: i32,
     pub high: i32,
 }
 
 // A box: a span on each axis.
-#[derive(Drop)]
+#[derive(Clone, Copy)]
 pub struct Bounds {
     pub x: Span,
     pub y: Span,
 }
 
 // One axis of a point and a box: where the point is, and the box's span.
-#[derive(Drop)]
+#[derive(Clone, Copy)]
 pub struct Axis {
     pub at: i32,
     pub span: Span,
 }
 
 // What a measure of a point and a box answers: `reading_of` gives document 01's number and value for each case.
-#[derive(Drop)]
+#[derive(Clone, Copy)]
 pub enum Measured {
     Found(SquaredMm),
     PointOutside,

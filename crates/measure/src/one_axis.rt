@@ -7,7 +7,7 @@ ghost use Rattle.measure.specs.Answer.{point_ok};
 use crate::{Axis, Point, Span, SquaredMm};
 
 // The squares from the point to the near face and to the far one.
-#[derive(Drop)]
+#[derive(Clone, Copy)]
 pub struct Faces {
     pub near: SquaredMm,
     pub far: SquaredMm,

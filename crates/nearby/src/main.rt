@@ -1,5 +1,8 @@
 // The program that the station runs: floor.map and a question's six lines in, the answer out. It only reads and writes;
 // `text::answer_text` has the meaning.
+
+#![tactic(auto)]
+
 use libc::STDOUT_FILENO;
 use printer::OUTPUT_ROOM;
 

@@ -9,7 +9,7 @@ use crate::slots::how_far;
 use floor::ref_of;
 use measure::{HowFar, Point};
 
-#[derive(Drop)]
+#[derive(Clone, Copy)]
 pub struct Key(pub u64);
 
 impl Key {

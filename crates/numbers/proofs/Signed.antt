@@ -1,8 +1,8 @@
 -- Signed numbers as the code has them: a signed local holds bits, so a fact speaks of what is read back from them,
 -- `to_z w (of_z w z)`. Here are the casts from `i32` to `i64`, and the operations on such operands. Assumes nothing.
-use mathlib.Core.Path.{◌≡◌, sym, ap, ◌∙◌}
+use mathlib.Core.Path.{◌≡◌, ap, ◌∙◌}
 use mathlib.Core.Bool.{Bool}
-use Prim.Native.Nat.{ℕ, ◌+◌, ◌*◌, ◌^◌, ◌<◌, ◌≤◌}
+use Prim.Native.Nat.{◌*◌, ◌^◌, ◌<◌, ◌≤◌}
 use native.Mathlib.Omega.{arith}
 use native.Mathlib.Nat.{le_of_lt, mul-le-mul}
 use lib.Dec.{T}

@@ -1,6 +1,9 @@
 // A reply as the text of document 01: two lines for its number and how many bays were found, and a line for each.
 // `text` calls it, with the room that a reply was given; nothing here knows of maps or questions.
 // `print_reply` has a `requires`: a reply never finds more than 100 bays, and that many lines fit the buffer.
+
+#![tactic(auto)]
+
 mod put;
 mod records;
 

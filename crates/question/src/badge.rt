@@ -2,7 +2,7 @@
 ghost use Rattle.std.specs.Prelude.{◌≡◌};
 ghost use Rattle.question.specs.Badge.{on_badge, badge_ok};
 
-#[derive(Drop)]
+#[derive(Clone, Copy)]
 pub struct Badge(pub u32);
 
 impl Badge {

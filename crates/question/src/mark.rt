@@ -5,7 +5,7 @@ ghost use Rattle.question.specs.Mark.{before};
 use measure::HowFar;
 
 // How far, and a bay number, any values; (0, 0) is the start.
-#[derive(Drop)]
+#[derive(Clone, Copy)]
 pub struct Mark {
     pub far: HowFar,
     pub bay: u32,

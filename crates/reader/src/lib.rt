@@ -1,5 +1,8 @@
 // Reads a question's text: the lines of document 01's `nearby`, each a key, a decimal number and a newline.
 // A program that is asked in text calls this; `read_question` is for anyone, and has no `requires`.
+
+#![tactic(auto)]
+
 mod fields;
 mod number;
 mod values;
@@ -28,7 +31,7 @@ const U64: Limits = Limits {
     least: 0,
 };
 
-#[derive(Drop)]
+#[derive(Clone, Copy)]
 pub enum Asked {
     Read(Question),
     Bad,

@@ -3,28 +3,28 @@ ghost use Rattle.std.specs.Prelude.{◌≡◌, ◌+◌, ◌*◌, ◌≤◌, leb,
 ghost use Rattle.reader.specs.Scan.{limit_of, grow_of, digit_of, minus_of, finish_of, stop_of, byte_of, scan, Reads};
 
 // What a field holds: a number, as whether it has a minus and its size, or nothing of use.
-#[derive(Drop)]
+#[derive(Clone, Copy)]
 pub enum Number {
     Is(bool, u64),
     Wrong,
 }
 
 // How large a number may be, and how large behind a minus.
-#[derive(Drop)]
+#[derive(Clone, Copy)]
 pub struct Limits {
     pub most: u64,
     pub least: u64,
 }
 
 // What ends a field.
-#[derive(Drop)]
+#[derive(Clone, Copy)]
 pub enum Stop {
     Newline,
     Space,
 }
 
 // What was read of a number so far.
-#[derive(Drop)]
+#[derive(Clone, Copy)]
 pub enum State {
     Empty,
     Sign,
@@ -32,14 +32,14 @@ pub enum State {
 }
 
 // What a byte leads to.
-#[derive(Drop)]
+#[derive(Clone, Copy)]
 pub enum Step {
     On(State),
     End(Number),
 }
 
 // A number, and where its field ends.
-#[derive(Drop)]
+#[derive(Clone, Copy)]
 pub struct Reading {
     pub number: Number,
     pub next: usize,

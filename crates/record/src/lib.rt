@@ -1,6 +1,9 @@
 // A record of an answer room: what is told of one bay, as bytes, written and read back. The reply writes records; whoever
 // asked reads them. Nothing here knows of maps or questions.
 // Its functions have a `requires`: whoever writes or reads has tested the room's length once, before the first record.
+
+#![tactic(auto)]
+
 ghost use Rattle.std.specs.Prelude.{◌≡◌, ◌+◌, ◌*◌, ◌≤◌, length, drop};
 ghost use Rattle.std.proofs.lemmas.List.Edits.{sets};
 ghost use Rattle.record.specs.Record.{record_size, record_bytes, record_in};
@@ -12,7 +15,7 @@ use words::{put_u32, put_u64, u32_at, u64_at};
 pub const SIZE: usize = 16;
 
 // What is told of a bay: its number, its zone, and how far it is.
-#[derive(Drop)]
+#[derive(Clone, Copy)]
 pub struct Record {
     pub bay: u32,
     pub zone: u8,

@@ -6,7 +6,7 @@ ghost use Rattle.rules.specs.Boxes.{outer, around, hull_of, grown_of, tight_ok};
 use crate::spans::is_same;
 use measure::{Bounds, Span};
 
-#[derive(Drop)]
+#[derive(Clone, Copy)]
 pub enum Side {
     Low,
     High,

@@ -1,6 +1,9 @@
 // The map check: rules 11 to 16 of document 01, each tried over the whole map before the next. One file for each rule,
 // with its test of a node or of a slot; here are the one loop over the slots of a node, the one loop over nodes, and the
 // verdict. `check` is for anyone; the rest is for `check`, which knows that the rules before have been kept.
+
+#![tactic(auto)]
+
 mod boxes;
 mod fill;
 mod form;
@@ -16,7 +19,7 @@ ghost use Rattle.rules.specs.Verdicts.{rule_number, number_of, node_of, rule_ok,
 ghost use Rattle.rules.specs.Leaning.{slot_rule, Leans, LeansAll, Counted};
 
 // A rule that is tried node by node.
-#[derive(Drop)]
+#[derive(Clone, Copy)]
 pub enum Rule {
     Form,
     Fill,
@@ -26,7 +29,7 @@ pub enum Rule {
 }
 
 // The check's answer: `number_of` and `node_of` give document 01's numbers for each case.
-#[derive(Drop)]
+#[derive(Clone, Copy)]
 pub enum Verdict {
     Accepted,
     BadHeader,

@@ -1,5 +1,8 @@
 // The station's library for C, C++ and Rust hosts: thin functions over the libraries, each with a contract that cites the
 // same definitions. include/krylozhma.h declares them. A slice is a pointer and a length to C.
+
+#![tactic(auto)]
+
 ghost use Rattle.std.specs.Prelude.{◌≡◌, ◌<◌};
 ghost use Rattle.measure.specs.Axes.{min_dist, min_max_dist};
 ghost use Rattle.measure.specs.Answer.{measured_by};

@@ -1,5 +1,8 @@
 // One question as text in, one answer as text out: the whole meaning of the program `nearby`, which only reads and
 // writes. Anyone may call it; it has no `requires`.
+
+#![tactic(auto)]
+
 ghost use Rattle.printer.specs.Wrote.{Wrote};
 ghost use Rattle.text.specs.Text.{answer_text};
 

@@ -3,7 +3,7 @@
 use crate::batch::read_to;
 use words::u32_at;
 
-#[derive(Drop)]
+#[derive(Clone, Copy)]
 pub struct Command {
     pub kind: u8,
     pub map: u8,

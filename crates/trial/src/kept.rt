@@ -6,7 +6,7 @@ ghost use Rattle.trial.specs.Lengths.{Fit};
 use measure::HowFar;
 use question::Mark;
 
-#[derive(Drop)]
+#[derive(Clone, Copy)]
 pub struct Kept {
     pub lengths: [usize; 4],
     pub mark: Mark,

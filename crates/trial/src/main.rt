@@ -1,6 +1,9 @@
 // Runs a batch of cases from standard input through the libraries and writes what each gives, for comparison with
 // independent implementations. Nothing calls it. `oracle/README.md` describes the batch and what is written. Its contracts
 // are bounds: what it writes is compared, and not proved.
+
+#![tactic(auto)]
+
 mod answer_room;
 mod batch;
 mod command;

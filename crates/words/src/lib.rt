@@ -1,5 +1,8 @@
 // Little-endian numbers in bytes, read and written. It knows nothing of maps or records, which are made of them.
 // Whoever reads or writes one has shown that its bytes are there, so each function has a `requires`.
+
+#![tactic(auto)]
+
 mod read;
 mod write;
 
