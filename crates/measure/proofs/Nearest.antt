@@ -2,10 +2,10 @@
 -- on this one fact. Assumes nothing.
 use mathlib.Core.Path.{◌≡◌, refl}
 use mathlib.Core.Bool.{Bool, true, false, cond}
-use Prim.Native.Nat.{ℕ, suc, ◌+◌, ◌*◌, ◌-◌, ◌<◌, ◌≤◌}
+use Prim.Native.Nat.{ℕ, suc, ◌+◌, ◌-◌, ◌<◌, ◌≤◌}
 use native.Mathlib.Omega.{arith}
 use native.Mathlib.Nat.{mul-le-mul}
-use lib.IntN.{ℤ, nat_abs, ◌-ℤ◌, ◌*ℤ◌}
+use lib.IntN.{ℤ, nat_abs, ◌-ℤ◌}
 use lib.Signed.{mag, lt_z, ◌≤ℤ◌, ≤ℤ_refl}
 use Rattle.numbers.proofs.Order.{test_nlt}
 use Rattle.numbers.proofs.Sizes.{square_size}

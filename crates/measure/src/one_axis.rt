@@ -14,6 +14,7 @@ pub struct Faces {
 }
 
 // Within ±1,000,000.
+#[tactic(auto, unfolding(crate::specs::Axis::in_range))]
 fn in_range(z: i32) -> bool
     ensures { result ≡ in_range z }
 {
@@ -36,6 +37,7 @@ impl Point {
 
 impl Span {
     // Both ends in range, and low ≤ high.
+    #[tactic(auto, unfolding(crate::specs::Axis::span_in))]
     pub fn in_order(self) -> bool
         ensures { result ≡ span_in self }
     {
@@ -44,6 +46,7 @@ impl Span {
 }
 
 impl Axis {
+    #[tactic(auto, unfolding(crate::specs::Axis::point_in))]
     pub fn point_in(self) -> bool
         ensures { result ≡ point_in self }
     {
@@ -58,6 +61,7 @@ impl Axis {
     }
 
     // The place of the span that is nearest to the point.
+    #[tactic(auto, unfolding(crate::specs::Axis::nearest_on))]
     fn nearest(self) -> i32
         ensures { result ≡ nearest_on self }
     {
