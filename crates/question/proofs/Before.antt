@@ -1,6 +1,6 @@
 -- The order of bays is a strict order, it tells different numbers apart, and a farther bay never comes before a nearer
 -- one. Assumes nothing.
-use Prim.Native.Nat.{ℕ, ◌≤◌, ◌<◌}
+use Prim.Native.Nat.{◌≤◌, ◌<◌}
 use native.Mathlib.Omega.{arith}
 use mathlib.Core.Path.{◌≡◌}
 use mathlib.Core.Bool.{true, false}

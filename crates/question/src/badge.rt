@@ -18,6 +18,7 @@ impl Badge {
     }
 
     // Whether a zone is on the badge.
+    #[tactic(auto, unfolding(crate::specs::Badge::on_badge))]
     pub fn contains(self, zone: u8) -> bool
         ensures { result ≡ on_badge self.0 zone }
     {
@@ -28,6 +29,7 @@ impl Badge {
     }
 
     // Whether the badge may ask: one zone to eight, or all of them.
+    #[tactic(auto, unfolding(crate::specs::Badge::badge_ok))]
     pub fn accepted(self) -> bool
         ensures { result ≡ badge_ok self.0 }
     {

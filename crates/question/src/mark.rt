@@ -13,6 +13,7 @@ pub struct Mark {
 
 impl Mark {
     // Whether this place comes strictly before another: the nearer one, and of two as near the smaller number.
+    #[tactic(auto, unfolding(crate::specs::Mark::before))]
     pub fn is_before(self, other: Mark) -> bool
         ensures { result ≡ before self other }
     {
