@@ -1,0 +1,8 @@
+-- The numbers stand at their places in the record. Assumes nothing.
+use Rattle.std.proofs.Common.{◌*◌, refl}
+use Rattle.record.specs.Record.{record_size}
+use Rattle.record.proofs.Reading.{record_in_lem}
+use Rattle.record.proofs.record_at.Goals as goal
+
+pub returns : goal.returns
+returns c = record_in_lem c.args.room.now (record_size * c.args.i) _ _ _ c.u32_at-bay.ensures refl c.u64_at.ensures
