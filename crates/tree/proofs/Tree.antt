@@ -186,18 +186,22 @@ module _ (v : View) (tree : Treelike v) where
         let q : 8 * v.ref j + k % 8 ≡ k = omega arith in
         rw (link_tight j h l a ha) (rw q at (hull_holds v a (v.ref j) side 8 (k % 8) (omega arith) (rw q f)))
 
-    all_within : (j k : ℕ) → j < 8 * v.count → link v j ≡ true → filled v k ≡ true → Under v (v.ref j) k → AsFar j k
-    all_within j k h l f (here e) = child_within j k h l e f
-    all_within j k h l f (down i g m e u) =
+    -- t is the node that slot j names
+    all_within : (j k t : ℕ) → j < 8 * v.count → link v j ≡ true → v.ref j ≡ t → filled v k ≡ true → Under v t k → AsFar j k
+    all_within j k t h l n f (here e) = child_within j k h l (e ∙ sym n) f
+    all_within j k t h l n f (down i g m e u) =
         far_through
         side
         (end_of side (v.span j a))
         (end_of side (v.span i a))
         (end_of side (v.span k a))
-        (child_within j i h l e (link_filled v i m))
-        (all_within i k g m f u)
+        (child_within j i h l (e ∙ sym n) (link_filled v i m))
+        (all_within i k (v.ref i) g m refl f u)
 
   -- whatever lies below the node that a slot names lies within the slot's box
   pub inside : (j k : ℕ) → j < 8 * v.count → link v j ≡ true → filled v k ≡ true → Under v (v.ref j) k → InBox v j k
   inside j k h l f u a ha =
-      record { low = test_le (all_within a ha Low j k h l f u); high = test_le (all_within a ha High j k h l f u) }
+      record {
+        low = test_le (all_within a ha Low j k (v.ref j) h l refl f u);
+        high = test_le (all_within a ha High j k (v.ref j) h l refl f u);
+      }
