@@ -55,6 +55,7 @@ fn has_room(n: u64, d: u64, limit: u64) -> bool
     n <= (limit - d) / 10
 }
 
+#[tactic(auto, unfolding(crate::specs::Scan::grow_of))]
 fn grow(minus: bool, n: u64, d: u64, limit: u64) -> Step
     ensures { result ≡ grow_of minus n d limit }
 {
@@ -72,6 +73,7 @@ fn limit_of(minus: bool, limits: Limits) -> u64
 }
 
 // No zero behind a minus, and nothing behind a zero that came first.
+#[tactic(auto, unfolding(crate::specs::Scan::digit_of))]
 fn at_digit(s: State, d: u64, limits: Limits) -> Step
     ensures { result ≡ digit_of limits s d }
 {
@@ -132,6 +134,7 @@ fn at_space(s: State, stop: Stop) -> Number
     }
 }
 
+#[tactic(auto, using(crate::proofs::Scanning::stop_other), unfolding(crate::specs::Scan::byte_of))]
 fn advance(s: State, b: u8, limits: Limits, stop: Stop) -> Step
     ensures { result ≡ byte_of limits stop s b }
 {
