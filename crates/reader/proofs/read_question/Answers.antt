@@ -5,6 +5,8 @@ use Rattle.reader.specs.declared.Asked.TheVariants.{Read}
 use Rattle.reader.specs.declared.number.Reading.{Reading}
 use Rattle.reader.specs.Scan.{Scan}
 use Rattle.reader.specs.Chain.{scan_of}
+use Rattle.reader.specs.QuestionText.{question_fields}
+use Rattle.reader.proofs.Tabled.{chain_sound}
 use Rattle.reader.proofs.Questions.{wrong_bad, more_bad, all_read, nil_short, nil_all}
 use Rattle.reader.proofs.Theorems.{reading_right, reading_once}
 use Rattle.reader.proofs.read_question.Goals as goal
@@ -33,6 +35,14 @@ returns-then-end-size c =
     (c.line-x.ensures.field, (c.line-y.ensures.field, (c.line-k.ensures.field, (c.line-badge.ensures.field, (c.line-far.ensures.field, (c.line-bay.ensures.field, tt))))))
     (nil_short t _ c.line-bay.ensures.next c.if-end-size.true))
     (reading_right t)
+
+pub question_of-requires : goal.question_of-requires
+question_of-requires c =
+    let t = c.args.text.now in
+    let read = scans t c.line-x.result c.line-y.result c.line-k.result c.line-badge.result c.line-far.result c.line-bay.result in
+    (chain_sound question_fields t read
+    (c.line-x.ensures.field, (c.line-y.ensures.field, (c.line-k.ensures.field, (c.line-badge.ensures.field, (c.line-far.ensures.field, (c.line-bay.ensures.field, tt))))))
+    (sym c.are_numbers.ensures ∙ c.if-not-are_numbers.false)).1
 
 pub returns : goal.returns
 returns c =
