@@ -3,18 +3,33 @@
 
 #![tactic(auto)]
 
-ghost use Rattle.io.specs.Counts.{IsPrefixLen};
+ghost use Rattle.std.specs.Counts.{IsPrefixLen};
+
+use std::fs::{File, Files};
+use std::io::Read;
 
 // The bytes of floor.map, none where it is missing or cannot be read. One byte more than the longest map is enough to
 // see that a file is too long.
-pub fn read_map(map: &mut [u8]) -> usize
+pub fn read_map<R: Files>(files: &R, map: &mut [u8]) -> usize
     ensures { IsPrefixLen result map.new }
 {
-    let fd = os::open_read(b"floor.map");
-    if fd < 0 {
-        return 0;
+    match File::open(files, "floor.map") {
+        Ok(mut file) => read_full(&mut file, map),
+        Err(_) => 0,
     }
-    let n = io::read_full(fd, map);
-    libc::close(fd);
-    n
+}
+
+// Reads until the buffer is full, the input ends or a read fails, and returns how many bytes stand at the buffer's start.
+pub fn read_full<R: Read>(input: &mut R, buffer: &mut [u8]) -> usize
+    ensures { IsPrefixLen result buffer.new }
+{
+    let mut done = 0;
+    while done < buffer.len() {
+        match input.read(&mut buffer[done..]) {
+            Ok(0) => return done,
+            Ok(n) => done += n,
+            Err(_) => return done,
+        }
+    }
+    done
 }

@@ -1,5 +1,5 @@
-// The station's library for C, C++ and Rust hosts: thin functions over the libraries, each with a contract that cites the
-// same definitions. include/krylozhma.h declares them. A slice is a pointer and a length to C.
+// The station's library: thin functions over the libraries, with numbers in and out, each with a contract that cites the
+// same definitions. `station_c` exports them to C, C++ and Rust hosts.
 
 #![tactic(auto)]
 
@@ -29,8 +29,7 @@ fn pair(high: u64, low: u64) -> u64
 }
 
 // The map check: the first broken rule and the lowest node at fault.
-#[unsafe(no_mangle)]
-pub extern "C" fn krylozhma_check(map: &[u8]) -> u64
+pub fn krylozhma_check(map: &[u8]) -> u64
     ensures { result ≡ paired (number_of (verdict_of map.now)) (node_of (verdict_of map.now)) }
 {
     let verdict = rules::check(map);
@@ -52,8 +51,7 @@ fn question_of(x: i32, y: i32, k: u32, badge: u32, dsq: u64, bay: u32) -> Questi
 }
 
 // A question: the answer and how many bays were found; the room as the reply leaves it.
-#[unsafe(no_mangle)]
-pub extern "C" fn krylozhma_ask(
+pub fn krylozhma_ask(
     map: &[u8],
     x: i32,
     y: i32,
@@ -87,8 +85,7 @@ fn bounds(xlow: i32, xhigh: i32, ylow: i32, yhigh: i32) -> Bounds
 }
 
 // The answer that both measures give: 0, 1 or 2.
-#[unsafe(no_mangle)]
-pub extern "C" fn krylozhma_measure_answer(
+pub fn krylozhma_measure_answer(
     x: i32,
     y: i32,
     xlow: i32,
@@ -103,8 +100,7 @@ pub extern "C" fn krylozhma_measure_answer(
 }
 
 // MINDIST, 0 when it is refused.
-#[unsafe(no_mangle)]
-pub extern "C" fn krylozhma_mindist(
+pub fn krylozhma_mindist(
     x: i32,
     y: i32,
     xlow: i32,
@@ -120,8 +116,7 @@ pub extern "C" fn krylozhma_mindist(
 }
 
 // MINMAXDIST, 0 when it is refused.
-#[unsafe(no_mangle)]
-pub extern "C" fn krylozhma_minmaxdist(
+pub fn krylozhma_minmaxdist(
     x: i32,
     y: i32,
     xlow: i32,
@@ -137,8 +132,7 @@ pub extern "C" fn krylozhma_minmaxdist(
 }
 
 // The plain distance of a squared one.
-#[unsafe(no_mangle)]
-pub extern "C" fn krylozhma_plain(dsq: u64) -> u64
+pub fn krylozhma_plain(dsq: u64) -> u64
     ensures { RootOf dsq result }
 {
     measure::plain(SquaredMm(dsq)).0
