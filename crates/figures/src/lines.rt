@@ -3,63 +3,70 @@
 ghost use Rattle.std.specs.Prelude.{◌≤◌, length};
 
 use ask::{Answer, ask};
-use libc::STDOUT_FILENO;
 use measure::{Bounds, Point, SquaredMm};
 use question::Question;
 use record::record_at;
 use rules::check;
+use std::io;
 
 // A figure's two measures, each with its answer.
-pub fn measures(figure: u64, p: Point, b: Bounds) {
+pub fn measures(out: &impl Print, figure: u64, p: Point, b: Bounds) -> io::Result<()> {
     let least = measure::mindist(p, b);
     let promised = measure::minmaxdist(p, b);
-    start(figure, b"");
-    text(b"mindist ");
-    number(least.value().0);
-    text(b" answer ");
-    number(least.number() as u64);
-    text(b", minmaxdist ");
-    number(promised.value().0);
-    text(b" answer ");
-    number(promised.number() as u64);
-    text(b"\n");
+    start(out, figure, "")?;
+    text(out, "mindist ")?;
+    number(out, least.value().0)?;
+    text(out, " answer ")?;
+    number(out, least.number() as u64)?;
+    text(out, ", minmaxdist ")?;
+    number(out, promised.value().0)?;
+    text(out, " answer ")?;
+    number(out, promised.number() as u64)?;
+    text(out, "\n")
 }
 
 // The plain distance of a squared one.
-pub fn plain(figure: u64, d: u64) {
-    start(figure, b"");
-    text(b"plain distance of ");
-    number(d);
-    text(b" is ");
-    number(measure::plain(SquaredMm(d)).0);
-    text(b"\n");
+pub fn plain(out: &impl Print, figure: u64, d: u64) -> io::Result<()> {
+    start(out, figure, "")?;
+    text(out, "plain distance of ")?;
+    number(out, d)?;
+    text(out, " is ")?;
+    number(out, measure::plain(SquaredMm(d)).0)?;
+    text(out, "\n")
 }
 
 // What the map check says.
-pub fn verdict(figure: u64, part: &[u8], map: &[u8]) {
+pub fn verdict(out: &impl Print, figure: u64, part: &str, map: &[u8]) -> io::Result<()> {
     let v = check(map);
-    start(figure, part);
-    text(b"rule ");
-    number(v.number() as u64);
-    text(b" node ");
-    number(v.node() as u64);
-    text(b"\n");
+    start(out, figure, part)?;
+    text(out, "rule ")?;
+    number(out, v.number() as u64)?;
+    text(out, " node ")?;
+    number(out, v.node() as u64)?;
+    text(out, "\n")
 }
 
 // The answer to a question with a room of so many bytes, how many bays were found, and each as it stands in the room.
-pub fn reply(figure: u64, part: &[u8], map: &[u8], q: Question, size: usize)
+pub fn reply(
+    out: &impl Print,
+    figure: u64,
+    part: &str,
+    map: &[u8],
+    q: Question,
+    size: usize,
+) -> io::Result<()>
     requires { size ≤ 1616 }
 {
     let mut room = [0u8; 1616];
     let answer = ask_within(map, q, &mut room, size);
     let found = answer.found();
-    start(figure, part);
-    text(b"answer ");
-    number(answer.number() as u64);
-    text(b" found ");
-    number(found as u64);
-    records(&room, found);
-    text(b"\n");
+    start(out, figure, part)?;
+    text(out, "answer ")?;
+    number(out, answer.number() as u64)?;
+    text(out, " found ")?;
+    number(out, found as u64)?;
+    records(out, &room, found)?;
+    text(out, "\n")
 }
 
 // A question with the first bytes of a room as its room.
@@ -70,36 +77,37 @@ fn ask_within(map: &[u8], q: Question, room: &mut [u8], size: usize) -> Answer
 }
 
 // The first records of a room, as many as were found.
-fn records(room: &[u8; 1616], found: usize) {
+fn records(out: &impl Print, room: &[u8; 1616], found: usize) -> io::Result<()> {
     for i in 0..101 {
         if i < found {
-            told(room, i);
+            told(out, room, i)?;
         }
     }
+    Ok(())
 }
 
-fn told(room: &[u8; 1616], i: usize)
+fn told(out: &impl Print, room: &[u8; 1616], i: usize) -> io::Result<()>
     requires { i ≤ 100 }
 {
     let r = record_at(room, i);
-    text(b", bay ");
-    number(r.bay as u64);
-    text(b" dsq ");
-    number(r.far.0);
+    text(out, ", bay ")?;
+    number(out, r.bay as u64)?;
+    text(out, " dsq ")?;
+    number(out, r.far.0)
 }
 
 // A figure's number, and which part of it a line is about.
-fn start(figure: u64, part: &[u8]) {
-    text(b"figure ");
-    number(figure);
-    text(part);
-    text(b": ");
+fn start(out: &impl Print, figure: u64, part: &str) -> io::Result<()> {
+    text(out, "figure ")?;
+    number(out, figure)?;
+    text(out, part)?;
+    text(out, ": ")
 }
 
-fn text(t: &[u8]) {
-    io::write_all(STDOUT_FILENO, t);
+fn text(out: &impl Print, t: &str) -> io::Result<()> {
+    out.print(t)
 }
 
-fn number(n: u64) {
-    io::print_decimal(STDOUT_FILENO, n);
+fn number(out: &impl Print, n: u64) -> io::Result<()> {
+    out.print(n)
 }

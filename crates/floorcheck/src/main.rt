@@ -3,18 +3,16 @@
 
 #![tactic(auto)]
 
-use libc::STDOUT_FILENO;
+use std::io;
 
-fn main() {
+fn main(rt: HostRuntime) -> io::Result<()> {
     let mut map = [0u8; 50185];
-    let n = mapfile::read_map(&mut map);
+    let n = mapfile::read_map(&rt, &mut map);
     let verdict = rules::check(&map[..n]);
-    line(b"answer=", verdict.number() as u64);
-    line(b"node=", verdict.node() as u64);
+    line(&rt, "answer=", verdict.number() as u64)?;
+    line(&rt, "node=", verdict.node() as u64)
 }
 
-fn line(key: &[u8], value: u64) {
-    io::write_all(STDOUT_FILENO, key);
-    io::print_decimal(STDOUT_FILENO, value);
-    io::write_all(STDOUT_FILENO, b"\n");
+fn line(out: &impl Print, key: &str, value: u64) -> io::Result<()> {
+    println!(out; "{key}{value}")
 }

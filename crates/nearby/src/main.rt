@@ -3,16 +3,16 @@
 
 #![tactic(auto)]
 
-use libc::STDOUT_FILENO;
 use printer::OUTPUT_ROOM;
+use std::io;
 
-fn main() {
+fn main(rt: HostRuntime) -> io::Result<()> {
     let mut map = [0u8; 50185];
-    let n = mapfile::read_map(&mut map);
+    let n = mapfile::read_map(&rt, &mut map);
     // The longest question has 108 bytes: what comes after 128 does not show (`rest_unread`).
     let mut input = [0u8; 128];
-    let m = io::read_full(0, &mut input);
+    let m = mapfile::read_full(&mut rt.stdin(), &mut input);
     let mut out = [0u8; OUTPUT_ROOM];
     let length = text::answer_text(&map[..n], &input[..m], &mut out);
-    io::write_all(STDOUT_FILENO, &out[..length]);
+    rt.write_all(&out[..length])
 }

@@ -1,6 +1,7 @@
 // A command's head: its kind, the map's number, a byte to fill the room from, and its words, named as in the batch's
 // description. What a word means is for the command's kind to say.
 use crate::batch::read_to;
+use std::io::Read;
 use words::u32_at;
 
 #[derive(Clone, Copy)]
@@ -24,18 +25,18 @@ impl Command {
 }
 
 // How many commands the batch has: none where even the count is missing.
-pub fn read_count() -> u32 {
+pub fn read_count(batch: &mut impl Read) -> u32 {
     let mut bytes = [0u8; 4];
-    if read_to(&mut bytes, 0, 4) {
+    if read_to(batch, &mut bytes, 0, 4) {
         u32_at(&bytes, 0)
     } else {
         0
     }
 }
 
-pub fn read_command() -> Command {
+pub fn read_command(batch: &mut impl Read) -> Command {
     let mut head = [0u8; 32];
-    let whole = read_to(&mut head, 0, 32);
+    let whole = read_to(batch, &mut head, 0, 32);
     // A head that is cut short is of no kind.
     if !whole {
         head[0] = 0;

@@ -20,21 +20,28 @@ use kept::Kept;
 use maps::{load, map_of};
 use measure::HowFar;
 use queries::{answer_text, ask, check, measure, plain};
+use say::Lines;
+use std::io;
+use std::io::Read;
 
-fn main() {
-    let count = read_count();
+fn main(rt: HostRuntime) -> io::Result<()> {
+    let mut batch = rt.stdin();
+    let mut lines = Lines::new(rt.stdout());
+    let count = read_count(&mut batch);
     let mut maps = [0u8; 262144];
     let mut room = [0u8; 4096];
-    run(count, &mut maps, &mut room);
+    run(&mut batch, &mut lines, count, &mut maps, &mut room);
+    lines.end()
 }
 
 // So many commands, or fewer where one ends the run.
-fn run(count: u32, maps: &mut [u8], room: &mut [u8])
+fn run(batch: &mut impl Read, lines: &mut Lines, count: u32, maps: &mut [u8], room: &mut [u8])
     requires { (length maps.old ≡ 262144) × (length room.old ≡ 4096) }
 {
     let mut kept = Kept::new();
     for _ in 0..count {
-        kept = obey(read_command(), kept, maps, room);
+        let command = read_command(batch);
+        kept = obey(batch, lines, command, kept, maps, room);
         if kept.over {
             return;
         }
@@ -42,26 +49,33 @@ fn run(count: u32, maps: &mut [u8], room: &mut [u8])
 }
 
 // One command. A kind that is none of these ends the run.
-fn obey(c: Command, kept: Kept, maps: &mut [u8], room: &mut [u8]) -> Kept
+fn obey(
+    batch: &mut impl Read,
+    lines: &mut Lines,
+    c: Command,
+    kept: Kept,
+    maps: &mut [u8],
+    room: &mut [u8],
+) -> Kept
     requires { Fit kept.lengths × ((length maps.old ≡ 262144) × (length room.old ≡ 4096)) }
     ensures { Fit result.lengths }
 {
     let kind = c.kind;
     match kind {
-        b'M' => load(c, kept, maps),
+        b'M' => load(batch, c, kept, maps),
         b'C' => {
-            check(map_of(maps, kept, c.map));
+            check(lines, map_of(maps, kept, c.map));
             kept
         }
         b'K' => kept.with_mark(HowFar(c.squared()), c.c),
-        b'A' => ask(c, kept, map_of(maps, kept, c.map), room),
-        b'T' => answer_text(c, kept, map_of(maps, kept, c.map)),
+        b'A' => ask(lines, c, kept, map_of(maps, kept, c.map), room),
+        b'T' => answer_text(batch, lines, c, kept, map_of(maps, kept, c.map)),
         b'D' => {
-            measure(c);
+            measure(lines, c);
             kept
         }
         b'R' => {
-            plain(c);
+            plain(lines, c);
             kept
         }
         _ => kept.ended(),

@@ -5,6 +5,7 @@ ghost use Rattle.trial.specs.Lengths.{Fit};
 use crate::batch::read_to;
 use crate::command::Command;
 use crate::kept::Kept;
+use std::io::Read;
 
 const MAP_ROOM: usize = 65536;
 
@@ -26,7 +27,7 @@ pub fn map_of(maps: &[u8], kept: Kept, map: u8) -> &[u8]
 }
 
 // Bytes of the batch to a place in a map, which gets another length.
-pub fn load(c: Command, kept: Kept, maps: &mut [u8]) -> Kept
+pub fn load(batch: &mut impl Read, c: Command, kept: Kept, maps: &mut [u8]) -> Kept
     requires { Fit kept.lengths × (length maps.old ≡ 262144) }
     ensures { Fit result.lengths }
 {
@@ -40,7 +41,7 @@ pub fn load(c: Command, kept: Kept, maps: &mut [u8]) -> Kept
         return kept.ended();
     }
     let m = number_of(c.map);
-    if read_to(maps, MAP_ROOM * m + place, count) {
+    if read_to(batch, maps, MAP_ROOM * m + place, count) {
         kept.with_length(m, length)
     } else {
         kept.ended()

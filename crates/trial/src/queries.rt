@@ -6,8 +6,7 @@ use crate::answer_room::{fill, sum};
 use crate::batch::read_to;
 use crate::command::Command;
 use crate::kept::Kept;
-use crate::say::say;
-use libc::STDOUT_FILENO;
+use crate::say::{Lines, say};
 use printer::OUTPUT_ROOM;
 use question::Mark;
 use record::record_at;
@@ -15,6 +14,7 @@ use station::{
     krylozhma_ask, krylozhma_check, krylozhma_measure_answer, krylozhma_mindist,
     krylozhma_minmaxdist, krylozhma_plain,
 };
+use std::io::Read;
 use words::signed;
 
 // Two numbers come in one, the first in the upper 32 bits.
@@ -24,13 +24,13 @@ const PAIR: u64 = 4294967296;
 const MOST_BYTES: usize = 4096;
 
 // The map check.
-pub fn check(map: &[u8]) {
+pub fn check(lines: &mut Lines, map: &[u8]) {
     let verdict = krylozhma_check(map);
-    say(b"check", &[verdict / PAIR, verdict % PAIR]);
+    say(lines, b"check", &[verdict / PAIR, verdict % PAIR]);
 }
 
 // A question, after the mark that is kept. The mark goes on to the last bay found.
-pub fn ask(c: Command, kept: Kept, map: &[u8], room: &mut [u8]) -> Kept
+pub fn ask(lines: &mut Lines, c: Command, kept: Kept, map: &[u8], room: &mut [u8]) -> Kept
     requires { Fit kept.lengths × (length room.old ≡ 4096) }
     ensures { Fit result.lengths }
 {
@@ -41,7 +41,7 @@ pub fn ask(c: Command, kept: Kept, map: &[u8], room: &mut [u8]) -> Kept
     let reply = reply_to(c, kept.mark, map, room);
     let answer = reply / PAIR;
     let found = reply % PAIR;
-    say(b"ask", &[answer, found, sum(room)]);
+    say(lines, b"ask", &[answer, found, sum(room)]);
     if answer > 0 {
         return kept;
     }
@@ -65,7 +65,13 @@ fn reply_to(c: Command, mark: Mark, map: &[u8], room: &mut [u8]) -> u64
 }
 
 // A question in text, which comes after the head.
-pub fn answer_text(c: Command, kept: Kept, map: &[u8]) -> Kept
+pub fn answer_text(
+    batch: &mut impl Read,
+    lines: &mut Lines,
+    c: Command,
+    kept: Kept,
+    map: &[u8],
+) -> Kept
     requires { Fit kept.lengths }
     ensures { Fit result.lengths }
 {
@@ -74,17 +80,17 @@ pub fn answer_text(c: Command, kept: Kept, map: &[u8]) -> Kept
         return kept.ended();
     }
     let mut input = [0u8; 4096];
-    if !read_to(&mut input, 0, count) {
+    if !read_to(batch, &mut input, 0, count) {
         return kept.ended();
     }
     let mut out = [0u8; OUTPUT_ROOM];
     let length = text::answer_text(map, &input[..count], &mut out);
-    io::write_all(STDOUT_FILENO, &out[..length]);
+    lines.write(&out[..length]);
     kept
 }
 
 // The two measures of a point and a box, and the answer of both.
-pub fn measure(c: Command) {
+pub fn measure(lines: &mut Lines, c: Command) {
     let x = signed(c.a);
     let y = signed(c.b);
     let xlow = signed(c.c);
@@ -94,10 +100,10 @@ pub fn measure(c: Command) {
     let answer = krylozhma_measure_answer(x, y, xlow, xhigh, ylow, yhigh) as u64;
     let least = krylozhma_mindist(x, y, xlow, xhigh, ylow, yhigh);
     let promised = krylozhma_minmaxdist(x, y, xlow, xhigh, ylow, yhigh);
-    say(b"measure", &[answer, least, promised]);
+    say(lines, b"measure", &[answer, least, promised]);
 }
 
 // The plain distance of a squared one.
-pub fn plain(c: Command) {
-    say(b"plain", &[krylozhma_plain(c.squared())]);
+pub fn plain(lines: &mut Lines, c: Command) {
+    say(lines, b"plain", &[krylozhma_plain(c.squared())]);
 }
