@@ -2,19 +2,19 @@
 -- apart, and none is nearer than the slot that it lies below. Assumes nothing.
 use Prim.Native.Nat.{ℕ, zero, suc, ◌+◌, ◌*◌, ◌/◌, ◌<◌, ◌≤◌}
 use native.Mathlib.Omega.{arith}
-use mathlib.Core.Path.{◌≡◌, refl, sym, ap, ◌∙◌}
+use mathlib.Core.Path.{◌≡◌, ap, ◌∙◌}
 use mathlib.Core.Bool.{true}
 use mathlib.Core.List.Memᴰ
 use mathlib.Core.List.{List, Memᴰ}
 use Rattle.numbers.proofs.Tests.{both}
-use Rattle.floor.specs.View.{View, filled, leaf, bay, link}
+use Rattle.floor.specs.View.{View, filled, leaf, bay}
 use Rattle.rules.specs.declared.Rule.TheVariants.{Bays}
 use Rattle.rules.specs.Verdicts.{Keeps}
-use Rattle.tree.specs.Under.{Under, slot_bays, part_bays, node_bays}
+use Rattle.tree.specs.Under.{slot_bays, part_bays}
 use Rattle.rules.proofs.Verdicts.{shaped}
 use Rattle.tree.specs.Treelike.{Treelike}
 use Rattle.tree.proofs.Tree.{keeps_treelike, link_leads, bays_apart}
-use Rattle.tree.proofs.Spanning.{From, slot_link, fallen, from_slot, from_node, parts_apart}
+use Rattle.tree.proofs.Spanning.{slot_link, fallen, from_slot, from_node, parts_apart}
 use Rattle.order.specs.Order.{only, Apart, Cross, Distinct, Once, Same}
 use Rattle.order.proofs.Only.{only_out, chosen_out}
 use Rattle.order.proofs.Parts.{only_same, only_once}

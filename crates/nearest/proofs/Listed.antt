@@ -1,12 +1,10 @@
 -- The slots of the whole list and of a page: they are those of bays that the badge is shown, each once. Assumes nothing.
-use Prim.Native.Nat.{ℕ, ◌*◌, ◌<◌}
-use mathlib.Core.Path.{◌≡◌}
-use mathlib.Core.Bool.{true}
-use mathlib.Core.List.{List, Memᴰ}
-use Rattle.floor.specs.View.{View, bay}
+use Prim.Native.Nat.{ℕ}
+use mathlib.Core.List.{Memᴰ}
+use Rattle.floor.specs.View.{View}
 use Rattle.tree.specs.Flat.{all_bays}
 use Rattle.tree.proofs.Spanning.{flat_bays}
-use Rattle.order.specs.Order.{only, sort}
+use Rattle.order.specs.Order.{only}
 use Rattle.order.proofs.Only.{only_out}
 use Rattle.order.proofs.Kept.{take_out}
 use Rattle.order.proofs.Sorting.{sort_out}

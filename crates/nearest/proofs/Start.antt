@@ -1,5 +1,5 @@
 -- A search begins with no bays, and what it finds below the root is the page. Assumes nothing.
-use Prim.Native.Nat.{ℕ, zero, suc, ◌*◌, ◌%◌, ◌<◌, ◌≤◌}
+use Prim.Native.Nat.{ℕ, zero, suc, ◌≤◌}
 use native.Mathlib.Omega.{arith}
 use mathlib.Core.Path.{◌≡◌, refl, sym, ap, ◌∙◌}
 use lib.ListN.{length, get_or, replicate, length-replicate}
@@ -11,7 +11,7 @@ use Rattle.order.specs.Order.{Sorted}
 use Rattle.tree.specs.Under.{node_bays}
 use Rattle.question.specs.declared.Question.{Question}
 use Rattle.nearest.specs.declared.best.Best.{Best}
-use Rattle.nearest.specs.Best.{slot_in, keys_of, no_bays, Slots, Carried}
+use Rattle.nearest.specs.Best.{keys_of, no_bays, Carried}
 use Rattle.nearest.specs.Searched.{Searched, Found}
 use Rattle.nearest.proofs.Page.{page_below}
 

@@ -3,15 +3,14 @@
 use Prim.Native.Nat.{ℕ, suc, ◌+◌, ◌*◌, ◌-◌, ◌/◌, ◌<◌, ◌≤◌}
 use native.Mathlib.Omega.{arith}
 use native.Mathlib.Decide.{ℕ_discrete}
-use mathlib.Core.Path.{◌≡◌, refl, sym, ap, ◌∙◌}
+use mathlib.Core.Path.{◌≡◌, sym, ap, ◌∙◌}
 use mathlib.Core.List.{List, []}
-use mathlib.Core.Bool.{Bool, true, false, cond, ◌&&◌, true≢false}
+use mathlib.Core.Bool.{Bool, true, false, true≢false}
 use lib.Dec.{leb, ltb}
 use lib.ListN.{length, get_or, set}
 use lib.Seq.{get_or-set_same, get_or-set_other, length-take-le, get_or-take}
 use borrow.Author.Tests.{ltb-true, ltb-false, lt-ltb, le-ltb, leb-true, leb-false}
 use Rattle.numbers.specs.Below.{count_below}
-use Rattle.numbers.proofs.Tests.{both}
 use Rattle.numbers.proofs.Below.{count_less}
 use Rattle.measure.specs.declared.HowFar.{HowFar}
 use Rattle.floor.specs.View.{View, filled}
@@ -28,7 +27,7 @@ use Rattle.order.proofs.Turns.{turns_none, turns_one, turns_stop, turns_end}
 use Rattle.question.specs.declared.Question.{Question}
 use Rattle.question.proofs.Before.{farther_waits}
 use Rattle.nearest.specs.declared.best.Best.{Best}
-use Rattle.nearest.specs.Best.{far_in, mark_in, sooner, keys_of, worst_of, Carried}
+use Rattle.nearest.specs.Best.{far_in, mark_in, sooner, keys_of, Carried}
 use Rattle.nearest.specs.Reach.{none, beyond, gap_of, Reach, opened}
 use Rattle.nearest.specs.Searched.{Kept, wanted_keys, Searched}
 use Rattle.nearest.proofs.Keys.{sooner_order}

@@ -1,5 +1,5 @@
 -- After i slots, the first i parts of the leaf are searched.
-use Rattle.std.proofs.Common.{◌≡◌, ℕ, ◌+◌, ◌-◌, ◌*◌, ◌<◌, ◌≤◌, sym, ap, ◌∙◌, inl, inr, take, arith}
+use Rattle.std.proofs.Common.{ℕ, ◌+◌, ◌-◌, ◌*◌, ◌<◌, ◌≤◌, sym, ap, ◌∙◌, inl, inr, take, arith}
 use Rattle.floor.specs.View.{view_of}
 use Rattle.order.specs.Order.{place, gather}
 use Rattle.order.proofs.Only.{gather_more}
@@ -63,17 +63,17 @@ loop-i-preserved c =
     let turn : Searched v d q (part l.i) (listing q.k l.keys l.up) (listing q.k c.if-takes.keys c.if-takes.up) =
     elim c.if-takes.branch [
       | then-takes w ↦
-        rw (w.keys-is, w.up-is)
-        (slot_taken v d q c.args.node l.i l.keys l.up held _ w.if-up-k.up
-        (sym c.takes.ensures ∙ w.if-takes.true) w.sink.ensures.long w.sink.ensures.slots
-        (elim w.if-up-k.branch [
-          | then-up-k g ↦ inl (g.if-up-k.true, g.up-is)
-          | else-up-k g ↦ inr (g.if-up-k.false, g.up-is)
-        ])
-        (w.sink.ensures.placed ∙ ap (λ (key : ℕ). place (sooner v) key (take (w.if-up-k.up - 1) l.keys)) w.key_at.ensures))
+          rw (w.keys-is, w.up-is)
+          (slot_taken v d q c.args.node l.i l.keys l.up held _ w.if-up-k.up
+          (sym c.takes.ensures ∙ w.if-takes.true) w.sink.ensures.long w.sink.ensures.slots
+          (elim w.if-up-k.branch [
+            | then-up-k g ↦ inl (g.if-up-k.true, g.up-is)
+            | else-up-k g ↦ inr (g.if-up-k.false, g.up-is)
+          ])
+          (w.sink.ensures.placed ∙ ap (λ (key : ℕ). place (sooner v) key (take (w.if-up-k.up - 1) l.keys)) w.key_at.ensures))
       | else-takes w ↦
-        rw (w.keys-is, w.up-is)
-        (slot_left v d q c.args.node l.i l.keys l.up held (sym c.takes.ensures ∙ w.if-takes.false))
+          rw (w.keys-is, w.up-is)
+          (slot_left v d q c.args.node l.i l.keys l.up held (sym c.takes.ensures ∙ w.if-takes.false))
     ] in (
       omega arith,
       l.invariant.1,

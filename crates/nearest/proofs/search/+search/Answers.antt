@@ -96,8 +96,8 @@ loop-q-preserved t c =
     let step : Searched v d q (part_bays v level node j) l.b c.if-level-eq1.b =
     elim c.if-level-eq1.branch [
       | then-level-eq1 w ↦
-        (let one : level - 1 ≡ 0 = omega (arith, w.if-level-eq1.true) in
-        rw (w.b-is, down, ← child, one) (kept_in_place l.b w.leaf-up.ensures w.worst_of-worst.ensures))
+          (let one : level - 1 ≡ 0 = omega (arith, w.if-level-eq1.true) in
+          rw (w.b-is, down, ← child, one) (kept_in_place l.b w.leaf-up.ensures w.worst_of-worst.ensures))
       | else-level-eq1 w ↦ rw (w.b-is, down, ← child) w.search-b.ensures
     ] in (
       simp length-set l.invariant.0,

@@ -1,5 +1,5 @@
 -- A root that is a leaf, or a search from the root.
-use Rattle.std.proofs.Common.{◌≡◌, ℕ, refl, sym, ◌∙◌, arith}
+use Rattle.std.proofs.Common.{◌≡◌, refl, sym, ◌∙◌, arith}
 use Rattle.floor.specs.View.{view_of}
 use Rattle.nearest.specs.Shown.{distance_to}
 use Rattle.nearest.specs.Best.{no_bays}

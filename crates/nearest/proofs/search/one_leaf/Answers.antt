@@ -3,7 +3,6 @@ use Rattle.floor.specs.View.{view_of}
 use Rattle.nearest.specs.Best.{no_bays}
 use Rattle.nearest.proofs.Measured.{ground_shaped}
 use Rattle.nearest.proofs.Offer.{listed}
-use Rattle.nearest.proofs.Searching.{kept_in_place}
 use Rattle.nearest.proofs.Start.{no_bays_carried}
 use Rattle.nearest.proofs.search.one_leaf.Goals as goal
 

@@ -1,5 +1,4 @@
 -- No filled slot of an accepted map is refused.
-use Rattle.std.proofs.Common.{ap}
 use Rattle.floor.specs.View.{view_of}
 use Rattle.nearest.proofs.Measured.{slot_ready}
 use Rattle.nearest.proofs.slots.how_far.Goals as goal
