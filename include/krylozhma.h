@@ -1,6 +1,6 @@
 /* The station's library: checks floor maps, answers which bays are nearest, and measures. Link target/staticlib/libstation.a,
-   which `rt staticlib station` proves and writes. Nothing is allocated, nothing is kept between calls, and every call ends,
-   whatever it is given; each function's contract is in crates/station/src/lib.rt. docs/MAP.md has the map, the question and
+   which `tools/build station_c` proves and writes. Nothing is allocated, nothing is kept between calls, and every call ends,
+   whatever it is given; each function's contract is in crates/station_c/src/lib.rt. docs/MAP.md has the map, the question and
    the reply. No pointer is null, even where its length is 0. One call takes at most 45 KB of stack. */
 #ifndef KRYLOZHMA_H
 #define KRYLOZHMA_H

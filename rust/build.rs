@@ -1,4 +1,4 @@
-//! Links libstation.a, which `rt staticlib station` proves and writes; it is for x86-64.
+//! Links libstation.a, which `tools/build station_c` proves and writes; it is for x86-64.
 fn main() {
     let root = std::path::Path::new(env!("CARGO_MANIFEST_DIR")).parent().unwrap();
     let folder = root.join("target/staticlib");

@@ -1,6 +1,5 @@
 # Sourced by what links C with the station's library, from the project's root. Programs are for x86-64: elsewhere a cross
 # compiler and an emulator are installed, and $emulator goes before a program's name.
-rt=$(command -v rt || echo /opt/rattle/bin/rt)
 cc=gcc emulator=
 if [ "$(uname -m)" != x86_64 ]; then
     cc=x86_64-linux-gnu-gcc emulator=qemu-x86_64
@@ -12,7 +11,7 @@ fi
 prove_station() {
     local log
     log=$(mktemp)
-    "$rt" staticlib station >"$log" 2>&1 || { tail -5 "$log"; rm -f "$log"; return 1; }
+    tools/build station_c >"$log" 2>&1 || { tail -5 "$log"; rm -f "$log"; return 1; }
     rm -f "$log"
 }
 
