@@ -1,11 +1,11 @@
 -- The reply by its number: what answer 0 says of the question and the map, the page it then brings, and that no more than
 -- a hundred bays are found. Assumes nothing.
-use Prim.Native.Nat.{ℕ, ◌*◌, ◌≤◌, ◌<◌}
+use Prim.Native.Nat.{ℕ, ◌*◌, ◌≤◌}
 use native.Mathlib.Omega.{arith}
-use mathlib.Core.Path.{◌≡◌, refl, sym, ap, ◌∙◌}
+use mathlib.Core.Path.{◌≡◌, sym, ap, ◌∙◌}
 use mathlib.Core.List.Memᴰ
-use mathlib.Core.List.{List, [], ◌∷◌, ◌++◌}
-use mathlib.Core.Bool.{Bool, true, false, not, cond}
+use mathlib.Core.List.{List, [], ◌∷◌}
+use mathlib.Core.Bool.{true, false, not, cond}
 use lib.Dec.{eqb, leb, ltb}
 use lib.ListN.{length, length-take, length-map}
 use borrow.Author.Tests.{leb-true, ltb-false, eqb-true, eqb-false, eq-eqb, ne_eqb, not-false}
@@ -21,7 +21,7 @@ use Rattle.question.specs.declared.Question.{Question}
 use Rattle.question.specs.Badge.{badge_ok}
 use Rattle.nearest.specs.Shown.{distance_to, after_mark, whole_list, page}
 use Rattle.ask.specs.Told.{record_at, page_of}
-use Rattle.ask.specs.Reply.{count_ok, accepted, own_tests, tests, refusal, Reply, refused, answered, reply_of}
+use Rattle.ask.specs.Reply.{count_ok, accepted, own_tests, refusal, Reply, refused, answered, reply_of}
 
 -- what a question that is not refused by itself keeps
 pub record OwnGood (q : Question) (size : ℕ) : Type 0 where

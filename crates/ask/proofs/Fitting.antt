@@ -1,5 +1,5 @@
 -- What is told of a bay fits the bytes of its record, on an accepted map that is a list of bytes. Assumes nothing.
-use Prim.Native.Nat.{ℕ, ◌+◌, ◌*◌, ◌/◌, ◌<◌}
+use Prim.Native.Nat.{ℕ, ◌*◌, ◌/◌, ◌<◌}
 use native.Mathlib.Omega.{arith}
 use mathlib.Core.Path.{◌≡◌, subst}
 use mathlib.Core.Bool.{true}

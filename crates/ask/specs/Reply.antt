@@ -1,6 +1,6 @@
 -- The question's reply: its number, how many bays were found, and the answer room's bytes after the call. Document 01,
 -- 'The question and its reply'.
-use Rattle.std.specs.Prelude.{◌≡◌, Bool, true, not, cond, ◌&&◌, List, [], ◌∷◌, ◌++◌, ℕ, ◌*◌, ◌≤◌, eqb, leb, ltb, length}
+use Rattle.std.specs.Prelude.{◌≡◌, Bool, not, cond, ◌&&◌, List, [], ◌∷◌, ◌++◌, ℕ, ◌*◌, ◌≤◌, eqb, leb, ltb, length}
 use Rattle.numbers.specs.Tried.{Test, test, first_given}
 use Rattle.measure.specs.Answer.{point_ok}
 use Rattle.floor.specs.View.{view_of}

@@ -1,15 +1,15 @@
 -- The bays below the root of a map that is a tree are its bays, each once: going down the tree reaches what the flat definition
 -- lists. Over the numbers of slots, so that no measure, badge or order is spoken of. Assumes nothing.
-use Prim.Native.Nat.{ℕ, zero, suc, ◌+◌, ◌*◌, ◌/◌, ◌%◌, ◌<◌, ◌≤◌}
+use Prim.Native.Nat.{ℕ, zero, suc, ◌+◌, ◌*◌, ◌/◌, ◌%◌, ◌<◌}
 use native.Mathlib.Omega.{arith}
 use mathlib.Core.Path.{◌≡◌, refl, sym, ap, ◌∙◌}
-use mathlib.Core.Bool.{Bool, true, false, cond, not, ◌&&◌}
+use mathlib.Core.Bool.{true, not}
 use mathlib.Core.List.Memᴰ
-use mathlib.Core.List.{List, [], ◌∷◌, Memᴰ}
+use mathlib.Core.List.{[], ◌∷◌, Memᴰ}
 use borrow.Author.Tests.{eqb-true, ne_eqb}
 use Rattle.numbers.proofs.Tests.{both}
 use Rattle.floor.specs.View.{View, filled, leaf, bay, link}
-use Rattle.order.specs.Order.{Once, Disjoint, Same, gather}
+use Rattle.order.specs.Order.{Once, Disjoint, Same}
 use Rattle.order.proofs.Place.{by_test}
 use Rattle.order.proofs.Only.{chosen_out, gather_each}
 use Rattle.order.proofs.Parts.{gather_in, gather_once}

@@ -1,6 +1,6 @@
 -- Each rule is tried over the whole map before the next, and what one has shown is what the later ones lean on.
 use Rattle.std.proofs.Common.{◌≡◌, ℕ, ◌*◌, ◌/◌, ◌<◌, ◌≤◌, List, [], ◌∷◌, true, false, sym, ap, ◌∙◌, arith}
-use Rattle.floor.specs.View.{view_of, filled, leaf, link, Shaped}
+use Rattle.floor.specs.View.{view_of, filled, leaf, Shaped}
 use Rattle.rules.specs.declared.Rule.{Rule}
 use Rattle.rules.specs.declared.Rule.TheVariants.{Form, Fill, Links, Boxes, Bays}
 use Rattle.rules.specs.declared.Verdict.TheVariants.{Accepted, Broken}

@@ -19,14 +19,13 @@ loop-i-preserved c =
     let first = c.args.room.now in
     let long = told_length v c.args.k c.args.best c.requires.1 in
     let turn : c.if-i-best.room ≡ room_after rs first (l.i + 1) =
-    elim c.if-i-best.branch
-    [
-      then-i-best w ↦
-        let less = w.if-i-best.true in
-        let told = w.record_of-r.ensures ∙ sym (told_at v c.args.k c.args.best c.requires.1 l.i less) in
-        rw (w.room-is, w.put_record.ensures, l.invariant.3, told) (after_bay rs first l.i (record_of v 0) (omega arith) (omega arith))
+    elim c.if-i-best.branch [
+      | then-i-best w ↦
+          let less = w.if-i-best.true in
+          let told = w.record_of-r.ensures ∙ sym (told_at v c.args.k c.args.best c.requires.1 l.i less) in
+          rw (w.room-is, w.put_record.ensures, l.invariant.3, told) (after_bay rs first l.i (record_of v 0) (omega arith) (omega arith))
       | else-i-best w ↦
-        rw (w.room-is, w.put_record-else-i-best.ensures, l.invariant.3)
-        (after_zeros rs first l.i (omega (arith, w.if-i-best.false)) (omega arith))
+          rw (w.room-is, w.put_record-else-i-best.ensures, l.invariant.3)
+          (after_zeros rs first l.i (omega (arith, w.if-i-best.false)) (omega arith))
     ] in
     (omega arith, l.invariant.1, l.invariant.2, turn)

@@ -1,6 +1,5 @@
 -- The tests are the definition's own.
-use Rattle.std.proofs.Common.{◌≡◌, ℕ, ◌+◌, nat_eq, sym, ap, ◌∙◌, arith}
-use borrow.Author.Tests.{not-true, not-false}
+use Rattle.std.proofs.Common.{ℕ, ◌+◌, nat_eq, sym, ap, ◌∙◌, arith}
 use Rattle.floor.specs.View.{view_of}
 use Rattle.bays.specs.Certificate.{find_of, found_at}
 use Rattle.bays.proofs.Search.{own_entry}

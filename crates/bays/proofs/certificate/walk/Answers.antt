@@ -1,5 +1,5 @@
 -- What is left of the walk gives what the whole gives.
-use Rattle.std.proofs.Common.{◌≡◌, ℕ, get_or, refl, sym, ap, ◌∙◌, arith}
+use Rattle.std.proofs.Common.{◌≡◌, ℕ, get_or, sym, ap, ◌∙◌, arith}
 use borrow.Author.Tests.{eq-eqb, ne_eqb}
 use Rattle.floor.specs.View.{view_of}
 use Rattle.bays.specs.Certificate.{entry_ref, walk_of}

@@ -1,9 +1,9 @@
 -- The head, then slot after slot.
-use Rattle.std.proofs.Common.{◌≡◌, refl, ap, ◌∙◌, ◌+◌, false, length, pos, arith, rules}
+use Rattle.std.proofs.Common.{◌≡◌, refl, ◌+◌, false, length, pos, arith, rules}
 use Rattle.floor.specs.declared.Slot.{Slot}
 use Rattle.floor.specs.Layout.{head_size, node_at}
 use Rattle.floor.specs.Written.{slots_bytes}
-use Rattle.floor.proofs.Laid.{Laying, slots_more, node_laid}
+use Rattle.floor.proofs.Laid.{slots_more, node_laid}
 use Rattle.floor.proofs.write.put_node.Goals as goal
 
 -- what an array of slots is read as past its end

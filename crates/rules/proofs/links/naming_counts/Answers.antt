@@ -1,5 +1,5 @@
 -- Each count is that of the slots passed.
-use Rattle.std.proofs.Common.{◌≡◌, ℕ, ◌*◌, ◌%◌, refl, sym, ap, ◌∙◌, length-set, arith}
+use Rattle.std.proofs.Common.{◌≡◌, ◌*◌, ◌%◌, refl, sym, ap, ◌∙◌, length-set, arith}
 use Rattle.std.proofs.Math.ListN.{get_or-replicate}
 use borrow.Author.Tests.{eq-eqb, ne_eqb}
 use Rattle.numbers.specs.Below.{one, count_below}
