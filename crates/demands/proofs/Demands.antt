@@ -1,5 +1,5 @@
 -- The demands hold. Assumes nothing.
-use Prim.Native.Nat.{ℕ, zero, suc, ◌+◌, ◌*◌, ◌^◌, ◌≤◌, ◌<◌}
+use Prim.Native.Nat.{ℕ, ◌+◌, ◌≤◌, ◌<◌}
 use native.Mathlib.Omega.{arith}
 use mathlib.Core.Path.{◌≡◌, refl, sym, ap, ap₂, subst, ◌∙◌}
 use mathlib.Core.Logic.{◌⊎◌, inl, inr, ⊎_elim}
@@ -13,7 +13,7 @@ use Rattle.words.specs.Words.{Bytes}
 use Rattle.measure.specs.declared.Point.{Point}
 use Rattle.rules.specs.Verdicts.{number_of}
 use Rattle.rules.proofs.Verdicts.{accepted_complete}
-use Rattle.order.specs.Order.{only, Same}
+use Rattle.order.specs.Order.{only}
 use Rattle.order.proofs.Place.{by_test}
 use Rattle.record.specs.declared.Record.{Record}
 use Rattle.question.specs.declared.mark.Mark.{Mark}
@@ -25,9 +25,9 @@ use Rattle.ask.proofs.Replies.{accepted_keeps}
 use Rattle.ask.proofs.Theorems.{table_holds}
 use Rattle.demands.specs.Visible.{visible, SameBays, Alike}
 use Rattle.demands.specs.Runs.{Call, reply_to, received, joined, next_mark, accepted_in, came_short, Turn, asking, page_on, Asks, Run, waiting, refused, full, short, Pairwise, SameCall, SameTurn}
-use Rattle.demands.specs.Demands.{list_on, Demand1, Demand2, Paging, Demand3}
+use Rattle.demands.specs.Demands.{list_on, Demand1, Demand2, Demand3}
 use Rattle.demands.proofs.Whole.{whole_in, whole_out, whole_length, whole_strict, from_start, whole_once}
-use Rattle.ask.proofs.Answers.{Granted, granted, reply_page, reply_refused, number_is}
+use Rattle.ask.proofs.Answers.{granted, reply_page, reply_refused, number_is}
 use Rattle.demands.proofs.Pages.{past, page_rest, refused_none, depends_only, Got, got}
 
 -- ---- demands 1 and 2

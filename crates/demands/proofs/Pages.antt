@@ -1,10 +1,8 @@
 -- What comes after the last bay of a page is what came after the mark, less the page; and what an accepted question of a
 -- run brings. Assumes nothing.
-use Prim.Native.Nat.{ℕ, zero, suc, ◌+◌, ◌*◌, ◌≤◌, ◌<◌}
-use native.Mathlib.Omega.{arith}
+use Prim.Native.Nat.{ℕ, zero, suc, ◌≤◌}
 use mathlib.Core.Path.{◌≡◌, refl, sym, ap, ap₂, subst, ◌∙◌}
-use mathlib.Core.Logic.{⊎_elim}
-use mathlib.Core.List.{List, [], ◌∷◌, Memᴰ}
+use mathlib.Core.List.{List, [], ◌∷◌}
 use mathlib.Core.Bool.{Bool, true}
 use lib.Dec.{eqb}
 use lib.ListN.{length, take, drop}
@@ -12,7 +10,6 @@ use borrow.Author.Tests.{eqb-true, eqb-false}
 use Rattle.measure.specs.declared.Point.{Point}
 use Rattle.order.specs.Order.{only, Strict}
 use Rattle.order.proofs.Place.{by_test}
-use Rattle.order.proofs.Only.{only_out}
 use Rattle.order.proofs.After.{after_next}
 use Rattle.record.specs.declared.Record.{Record}
 use Rattle.question.specs.declared.mark.Mark.{Mark}
@@ -26,7 +23,7 @@ use Rattle.ask.specs.Told.{record_at, mark_of, page_of}
 use Rattle.record.specs.Record.{records_in}
 use Rattle.ask.specs.Reply.{accepted, refusal, Reply, refused, answered, reply_of}
 use Rattle.ask.proofs.Answers.{Granted, granted, reply_page, reply_refused, number_is}
-use Rattle.demands.specs.Visible.{SameBays, Alike}
+use Rattle.demands.specs.Visible.{Alike}
 use Rattle.demands.specs.Runs.{Call, reply_to, received, next_mark, Asks}
 use Rattle.demands.specs.Demands.{list_on, earlier}
 use Rattle.record.proofs.Reading.{room_read}

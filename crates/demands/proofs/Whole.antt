@@ -1,15 +1,15 @@
 -- The badge's whole list: exactly the visible bays, in strict order, each bay once, and the same for
 -- maps that show the same bays. Assumes nothing.
-use Prim.Native.Nat.{ℕ, ◌*◌, ◌/◌, ◌%◌, ◌^◌, ◌≤◌, ◌<◌}
+use Prim.Native.Nat.{ℕ, ◌/◌, ◌<◌}
 use native.Mathlib.Omega.{arith}
 use mathlib.Core.Path.{◌≡◌, refl, sym, ap, ◌∙◌}
 use mathlib.Core.List.Memᴰ
 use mathlib.Core.List.{List, [], ◌∷◌, map, map-map, Memᴰ}
-use mathlib.Core.Bool.{Bool, true, false, true≢false}
+use mathlib.Core.Bool.{true, true≢false}
 use lib.ListN.{length, length-map}
 use Rattle.numbers.proofs.Tests.{both}
 use Rattle.measure.specs.declared.Point.{Point}
-use Rattle.floor.specs.View.{View, view_of, leaf, bay, filled}
+use Rattle.floor.specs.View.{View, view_of, leaf, filled}
 use Rattle.rules.specs.declared.Rule.TheVariants.{Bays}
 use Rattle.rules.specs.Verdicts.{Keeps}
 use Rattle.tree.specs.Flat.{all_bays}

@@ -1,8 +1,8 @@
 -- The three demands, of any way of replying. Ours is `reply_of`, which the contract of `ask::ask` cites, as that of `rules::check`
 -- cites `verdict_of`; proofs/Demands.antt shows that it meets them, on every map, question and room, and proofs/Refuted.antt
 -- that the wrong ones of specs/Wrong.antt do not.
-use Rattle.std.specs.Prelude.{◌≡◌, Bool, true, false, ℕ, ◌+◌, ◌^◌, ◌≤◌, ◌<◌, eqb, length}
-use mathlib.Core.List.{List, [], ◌∷◌, map, Memᴰ}
+use Rattle.std.specs.Prelude.{◌≡◌, Bool, true, false, ℕ, ◌+◌, ◌^◌, ◌≤◌, ◌<◌, length}
+use mathlib.Core.List.{List, [], map, Memᴰ}
 use Rattle.numbers.specs.Exactly.{Exactly}
 use Rattle.words.specs.Words.{Bytes}
 use Rattle.measure.specs.declared.Point.{Point}

@@ -4,7 +4,6 @@ use Rattle.std.specs.Prelude.{List, ◌++◌, ℕ, pos}
 use Rattle.measure.specs.declared.Point.{Point}
 use Rattle.measure.specs.declared.Span.{Span}
 use Rattle.tree.specs.Examples.{header, node, from, bay_slot, blanks}
-use Rattle.question.specs.declared.mark.Mark.{Mark}
 use Rattle.question.specs.declared.Question.{Question}
 
 -- a slot above the leaves: x, y, and the node that it names

@@ -10,7 +10,6 @@ use mir.Val.{SFits, to_z, of_z}
 use Rattle.measure.specs.declared.Axis.{Axis}
 use Rattle.measure.specs.declared.Bounds.{Bounds}
 use Rattle.measure.specs.declared.Point.{Point}
-use Rattle.measure.specs.declared.Span.{Span}
 use Rattle.measure.specs.Axis.{point_in, box_in}
 use Rattle.measure.specs.Axes.{every}
 use Rattle.measure.specs.Answer.{axes_of, reading, measured_by}

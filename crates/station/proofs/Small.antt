@@ -1,5 +1,4 @@
 -- Each half of a pair fits 32 bits. Assumes nothing.
-use mathlib.Core.Path.{◌≡◌, ap}
 use mathlib.Core.List.{List, [], ◌∷◌}
 use Prim.Native.Nat.{ℕ, ◌≤◌, ◌<◌}
 use native.Mathlib.Omega.{arith}

@@ -1,7 +1,5 @@
 -- What the exports of the station's library give: pairs of numbers in one, and the same definitions as the libraries.
 use Rattle.std.specs.Prelude.{List, ℕ, ◌+◌, ◌*◌, ℤ}
-use Rattle.measure.specs.declared.Point.{Point}
-use Rattle.measure.specs.declared.Bounds.{Bounds}
 use Rattle.measure.specs.declared.Axis.{Axis}
 use Rattle.measure.specs.Answer.{axes_of}
 use Rattle.question.specs.declared.Question.{Question}

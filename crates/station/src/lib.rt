@@ -85,14 +85,7 @@ fn bounds(xlow: i32, xhigh: i32, ylow: i32, yhigh: i32) -> Bounds
 }
 
 // The answer that both measures give: 0, 1 or 2.
-pub fn krylozhma_measure_answer(
-    x: i32,
-    y: i32,
-    xlow: i32,
-    xhigh: i32,
-    ylow: i32,
-    yhigh: i32,
-) -> u32
+pub fn krylozhma_measure_answer(x: i32, y: i32, xlow: i32, xhigh: i32, ylow: i32, yhigh: i32) -> u32
     ensures { (result ≡ (measured_by min_dist (axes x y xlow xhigh ylow yhigh)).number)
         × (result ≡ (measured_by min_max_dist (axes x y xlow xhigh ylow yhigh)).number) }
 {
@@ -100,14 +93,7 @@ pub fn krylozhma_measure_answer(
 }
 
 // MINDIST, 0 when it is refused.
-pub fn krylozhma_mindist(
-    x: i32,
-    y: i32,
-    xlow: i32,
-    xhigh: i32,
-    ylow: i32,
-    yhigh: i32,
-) -> u64
+pub fn krylozhma_mindist(x: i32, y: i32, xlow: i32, xhigh: i32, ylow: i32, yhigh: i32) -> u64
     ensures { result ≡ (measured_by min_dist (axes x y xlow xhigh ylow yhigh)).value }
 {
     measure::mindist(point(x, y), bounds(xlow, xhigh, ylow, yhigh))
@@ -116,14 +102,7 @@ pub fn krylozhma_mindist(
 }
 
 // MINMAXDIST, 0 when it is refused.
-pub fn krylozhma_minmaxdist(
-    x: i32,
-    y: i32,
-    xlow: i32,
-    xhigh: i32,
-    ylow: i32,
-    yhigh: i32,
-) -> u64
+pub fn krylozhma_minmaxdist(x: i32, y: i32, xlow: i32, xhigh: i32, ylow: i32, yhigh: i32) -> u64
     ensures { result ≡ (measured_by min_max_dist (axes x y xlow xhigh ylow yhigh)).value }
 {
     measure::minmaxdist(point(x, y), bounds(xlow, xhigh, ylow, yhigh))

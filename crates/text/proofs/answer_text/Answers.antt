@@ -1,5 +1,5 @@
 -- The reply as it was given, printed.
-use Rattle.std.proofs.Common.{◌≤◌, sym, ap, ◌∙◌, arith, rules}
+use Rattle.std.proofs.Common.{◌≤◌, sym, ap, arith, rules}
 use Rattle.record.specs.Record.{records_in}
 use Rattle.ask.specs.Reply.{Reply}
 use Rattle.ask.proofs.Answers.{found_few}
