@@ -3,7 +3,9 @@
 
 #![tactic(auto)]
 
+ghost use Rattle.std.specs.Prelude.{take};
 ghost use Rattle.std.specs.Counts.{IsPrefixLen};
+ghost use Rattle.std.specs.Io.KnownBytes.{Consumes};
 
 use std::fs::{File, Files};
 use std::io::Read;
@@ -19,9 +21,11 @@ pub fn read_map<R: Files>(files: &R, map: &mut [u8]) -> usize
     }
 }
 
-// Reads until the buffer is full, the input ends or a read fails, and returns how many bytes stand at the buffer's start.
+// Reads until the buffer is full, the input ends or a read fails, and returns how many bytes stand at the buffer's start: the
+// input's next ones, as far as these are known.
 pub fn read_full<R: Read>(input: &mut R, buffer: &mut [u8]) -> usize
-    ensures { IsPrefixLen result buffer.new }
+    ensures within { IsPrefixLen result buffer.new }
+    ensures bytes { Consumes (R.remaining input.old) (R.remaining input.new) (take result buffer.new) }
 {
     let mut done = 0;
     while done < buffer.len() {

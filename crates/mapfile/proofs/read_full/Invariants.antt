@@ -1,9 +1,14 @@
--- `read_full` ends, since each turn leaves less to fill.
-use Rattle.std.proofs.Common.{length, ◌-◌, ◌≡◌, ◌^◌, ◌<◌, ◌≤◌}
+-- `read_full` ends, since each turn leaves less to fill, and what it filled is what it read.
+use Rattle.std.proofs.Common.{length, take, ◌-◌, ◌≡◌, ◌^◌, ◌<◌, ◌≤◌}
+use Rattle.std.specs.Io.KnownBytes.{Consumes}
 use Rattle.mapfile.proofs.read_full.Given as goal
 
 abbrev pub invariant-loop-done : goal.invariant-loop-done
-invariant-loop-done g l = (length l.buffer ≡ length l.initial.buffer) × (l.done ≤ length l.buffer) × (length l.buffer < 2 ^ 64)
+invariant-loop-done g l =
+    (length l.buffer ≡ length l.initial.buffer)
+    × (l.done ≤ length l.buffer)
+    × (length l.buffer < 2 ^ 64)
+    × Consumes (g.R.Read.remaining l.initial.input) (g.R.Read.remaining l.input) (take l.done l.buffer)
 
 abbrev pub decreases-loop-done : goal.decreases-loop-done
 decreases-loop-done g l = length l.initial.buffer - l.done
