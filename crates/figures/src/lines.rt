@@ -13,44 +13,44 @@ use std::io;
 pub fn measures(out: &impl Print, figure: u64, p: Point, b: Bounds) -> io::Result<()> {
     let least = measure::mindist(p, b);
     let promised = measure::minmaxdist(p, b);
-    start(out, figure, "")?;
-    text(out, "mindist ")?;
+    start(out, figure, b"")?;
+    text(out, b"mindist ")?;
     number(out, least.value().0)?;
-    text(out, " answer ")?;
+    text(out, b" answer ")?;
     number(out, least.number() as u64)?;
-    text(out, ", minmaxdist ")?;
+    text(out, b", minmaxdist ")?;
     number(out, promised.value().0)?;
-    text(out, " answer ")?;
+    text(out, b" answer ")?;
     number(out, promised.number() as u64)?;
-    text(out, "\n")
+    text(out, b"\n")
 }
 
 // The plain distance of a squared one.
 pub fn plain(out: &impl Print, figure: u64, d: u64) -> io::Result<()> {
-    start(out, figure, "")?;
-    text(out, "plain distance of ")?;
+    start(out, figure, b"")?;
+    text(out, b"plain distance of ")?;
     number(out, d)?;
-    text(out, " is ")?;
+    text(out, b" is ")?;
     number(out, measure::plain(SquaredMm(d)).0)?;
-    text(out, "\n")
+    text(out, b"\n")
 }
 
 // What the map check says.
-pub fn verdict(out: &impl Print, figure: u64, part: &str, map: &[u8]) -> io::Result<()> {
+pub fn verdict(out: &impl Print, figure: u64, part: &[u8], map: &[u8]) -> io::Result<()> {
     let v = check(map);
     start(out, figure, part)?;
-    text(out, "rule ")?;
+    text(out, b"rule ")?;
     number(out, v.number() as u64)?;
-    text(out, " node ")?;
+    text(out, b" node ")?;
     number(out, v.node() as u64)?;
-    text(out, "\n")
+    text(out, b"\n")
 }
 
 // The answer to a question with a room of so many bytes, how many bays were found, and each as it stands in the room.
 pub fn reply(
     out: &impl Print,
     figure: u64,
-    part: &str,
+    part: &[u8],
     map: &[u8],
     q: Question,
     size: usize,
@@ -61,12 +61,12 @@ pub fn reply(
     let answer = ask_within(map, q, &mut room, size);
     let found = answer.found();
     start(out, figure, part)?;
-    text(out, "answer ")?;
+    text(out, b"answer ")?;
     number(out, answer.number() as u64)?;
-    text(out, " found ")?;
+    text(out, b" found ")?;
     number(out, found as u64)?;
     records(out, &room, found)?;
-    text(out, "\n")
+    text(out, b"\n")
 }
 
 // A question with the first bytes of a room as its room.
@@ -90,22 +90,22 @@ fn told(out: &impl Print, room: &[u8; 1616], i: usize) -> io::Result<()>
     requires { i ≤ 100 }
 {
     let r = record_at(room, i);
-    text(out, ", bay ")?;
+    text(out, b", bay ")?;
     number(out, r.bay as u64)?;
-    text(out, " dsq ")?;
+    text(out, b" dsq ")?;
     number(out, r.far.0)
 }
 
 // A figure's number, and which part of it a line is about.
-fn start(out: &impl Print, figure: u64, part: &str) -> io::Result<()> {
-    text(out, "figure ")?;
+fn start(out: &impl Print, figure: u64, part: &[u8]) -> io::Result<()> {
+    text(out, b"figure ")?;
     number(out, figure)?;
     text(out, part)?;
-    text(out, ": ")
+    text(out, b": ")
 }
 
-fn text(out: &impl Print, t: &str) -> io::Result<()> {
-    out.print(t)
+fn text(out: &impl Print, t: &[u8]) -> io::Result<()> {
+    out.write_all(t)
 }
 
 fn number(out: &impl Print, n: u64) -> io::Result<()> {

@@ -41,27 +41,27 @@ fn measured(out: &impl Print) -> io::Result<()> {
 
 // Figures 6 to 8.
 fn asked(out: &impl Print) -> io::Result<()> {
-    first_page(out, 6, "", 3, 40, 48)?;
+    first_page(out, 6, b"", 3, 40, 48)?;
     on_example(
         out,
         7,
-        ", mark 16 4",
+        b", mark 16 4",
         question(point(6, 2), 1, 8, mark(16, 4)),
         16,
     )?;
     on_example(
         out,
         7,
-        ", mark 16 7",
+        b", mark 16 7",
         question(point(6, 2), 1, 8, mark(16, 7)),
         16,
     )?;
     let empty = maps::empty();
-    verdict(out, 8, "", bytes_of(&empty, 1))?;
+    verdict(out, 8, b"", bytes_of(&empty, 1))?;
     reply(
         out,
         8,
-        "",
+        b"",
         bytes_of(&empty, 1),
         question(point(0, 0), 1, 1, mark(0, 0)),
         16,
@@ -70,19 +70,19 @@ fn asked(out: &impl Print) -> io::Result<()> {
 
 // Figure 9: the zones of each badge are its lowest bits.
 fn badges(out: &impl Print) -> io::Result<()> {
-    first_page(out, 9, ", 8 zones", 1, 255, 16)?;
-    first_page(out, 9, ", 9 zones", 1, 511, 16)?;
-    first_page(out, 9, ", 31 zones", 1, 2147483647, 16)?;
-    first_page(out, 9, ", 32 zones", 1, 4294967295, 16)
+    first_page(out, 9, b", 8 zones", 1, 255, 16)?;
+    first_page(out, 9, b", 9 zones", 1, 511, 16)?;
+    first_page(out, 9, b", 31 zones", 1, 2147483647, 16)?;
+    first_page(out, 9, b", 32 zones", 1, 4294967295, 16)
 }
 
 // Figure 11.
 fn counts(out: &impl Print) -> io::Result<()> {
-    first_page(out, 11, ", k 0", 0, 40, 0)?;
-    first_page(out, 11, ", k 101", 101, 40, 1616)?;
-    first_page(out, 11, ", k 1", 1, 40, 16)?;
-    first_page(out, 11, ", k 100", 100, 40, 1600)?;
-    first_page(out, 11, ", room 15", 1, 40, 15)
+    first_page(out, 11, b", k 0", 0, 40, 0)?;
+    first_page(out, 11, b", k 101", 101, 40, 1616)?;
+    first_page(out, 11, b", k 1", 1, 40, 16)?;
+    first_page(out, 11, b", k 100", 100, 40, 1600)?;
+    first_page(out, 11, b", room 15", 1, 40, 15)
 }
 
 // Figures 12 and 13. The map with tight boxes shows that nothing else is wrong with the loose one.
@@ -90,20 +90,20 @@ fn refused(out: &impl Print) -> io::Result<()> {
     on_example(
         out,
         12,
-        ", x 1000001",
+        b", x 1000001",
         question(point(1000001, 2), 1, 40, mark(0, 0)),
         16,
     )?;
     let one_slot = maps::one_slot();
-    verdict(out, 12, ", inner root with 1 slot", bytes_of(&one_slot, 2))?;
+    verdict(out, 12, b", inner root with 1 slot", bytes_of(&one_slot, 2))?;
     let tight = maps::two_leaves(37);
-    verdict(out, 12, ", boxes tight", bytes_of(&tight, 3))?;
+    verdict(out, 12, b", boxes tight", bytes_of(&tight, 3))?;
     let loose = maps::two_leaves(38);
-    verdict(out, 12, ", a box one millimetre loose", bytes_of(&loose, 3))?;
+    verdict(out, 12, b", a box one millimetre loose", bytes_of(&loose, 3))?;
     reply(
         out,
         13,
-        "",
+        b"",
         bytes_of(&loose, 3),
         question(point(1000001, 2), 1, 40, mark(0, 0)),
         16,
@@ -111,7 +111,7 @@ fn refused(out: &impl Print) -> io::Result<()> {
 }
 
 // A question on the example map, with a room of so many bytes.
-fn on_example(out: &impl Print, figure: u64, part: &str, q: Question, size: usize) -> io::Result<()>
+fn on_example(out: &impl Print, figure: u64, part: &[u8], q: Question, size: usize) -> io::Result<()>
     requires { size ≤ 1616 }
 {
     let example = maps::example();
@@ -122,7 +122,7 @@ fn on_example(out: &impl Print, figure: u64, part: &str, q: Question, size: usiz
 fn first_page(
     out: &impl Print,
     figure: u64,
-    part: &str,
+    part: &[u8],
     k: usize,
     badge: u32,
     size: usize,

@@ -9,10 +9,12 @@ fn main(rt: HostRuntime) -> io::Result<()> {
     let mut map = [0u8; 50185];
     let n = mapfile::read_map(&rt, &mut map);
     let verdict = rules::check(&map[..n]);
-    line(&rt, "answer=", verdict.number() as u64)?;
-    line(&rt, "node=", verdict.node() as u64)
+    line(&rt, b"answer=", verdict.number() as u64)?;
+    line(&rt, b"node=", verdict.node() as u64)
 }
 
-fn line(out: &impl Print, key: &str, value: u64) -> io::Result<()> {
-    println!(out; "{key}{value}")
+fn line(out: &impl Print, key: &[u8], value: u64) -> io::Result<()> {
+    out.write_all(key)?;
+    out.print(value)?;
+    out.write_all(b"\n")
 }
