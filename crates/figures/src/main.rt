@@ -99,7 +99,12 @@ fn refused(out: &impl Print) -> io::Result<()> {
     let tight = maps::two_leaves(37);
     verdict(out, 12, b", boxes tight", bytes_of(&tight, 3))?;
     let loose = maps::two_leaves(38);
-    verdict(out, 12, b", a box one millimetre loose", bytes_of(&loose, 3))?;
+    verdict(
+        out,
+        12,
+        b", a box one millimetre loose",
+        bytes_of(&loose, 3),
+    )?;
     reply(
         out,
         13,
@@ -111,7 +116,13 @@ fn refused(out: &impl Print) -> io::Result<()> {
 }
 
 // A question on the example map, with a room of so many bytes.
-fn on_example(out: &impl Print, figure: u64, part: &[u8], q: Question, size: usize) -> io::Result<()>
+fn on_example(
+    out: &impl Print,
+    figure: u64,
+    part: &[u8],
+    q: Question,
+    size: usize,
+) -> io::Result<()>
     requires { size ≤ 1616 }
 {
     let example = maps::example();

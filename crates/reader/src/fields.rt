@@ -28,7 +28,7 @@ fn starts(text: &[u8], at: usize, key: &[u8]) -> bool
 // The field at `at`. It has a `requires`, since a field begins where the one before it has ended, within the text.
 pub fn field(text: &[u8], at: usize, key: &[u8], limits: Limits, stop: Stop) -> Reading
     requires { at ≤ length text.now }
-    ensures { FieldAt (record { key = key.entry.now; limits = limits; stop = stop }) text.now at result }
+    ensures { FieldAt (record { key = key.now; limits = limits; stop = stop }) text.now at result }
 {
     if !starts(text, at, key) {
         return Reading {
