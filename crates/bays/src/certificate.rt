@@ -14,6 +14,7 @@ pub enum Way {
 }
 
 // What the slot of an entry refers to.
+#[tactic(auto, unfolding(crate::specs::Certificate::entry_ref))]
 pub fn entry_ref(map: &[u8], entry: u16) -> u32
     requires { Shaped (view_of map.now) }
     ensures { result ≡ entry_ref (view_of map.now) entry }
@@ -59,6 +60,7 @@ fn walk(map: &[u8], table: &[u16; 4096], b: u32, own: u16, from: usize) -> u16
     0
 }
 
+#[tactic(auto, unfolding(crate::specs::Certificate::step_of))]
 fn stepped(map: &[u8], table: &[u16; 4096], n: usize, b: u32, at: usize, step: usize) -> usize
     requires { Shaped (view_of map.now) × ((n ≤ 4096) × ((at < 4096) × (step ≤ 1024))) }
     ensures { (result ≡ step_of (view_of map.now) table.now n b at step) × (result < 4096) }
@@ -101,6 +103,7 @@ fn find(map: &[u8], way: Way, table: &[u16; 4096], n: usize, b: u32, own: u16) -
     }
 }
 
+#[tactic(auto, using(crate::proofs::Search::own_entry), unfolding(crate::specs::Certificate::found_at))]
 fn is_found(map: &[u8], way: Way, table: &[u16; 4096], n: usize, j: usize) -> bool
     requires { Shaped (view_of map.now) × ((n ≤ 4096) × (j < 8 * (view_of map.now).count)) }
     ensures { result ≡ found_at way (view_of map.now) table.now n j }

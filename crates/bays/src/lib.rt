@@ -24,6 +24,7 @@ pub fn is_bay(map: &[u8], j: usize) -> bool
     (floor::level_of(map, j / 8) == 0) & floor::is_filled(map, j)
 }
 
+#[tactic(auto, unfolding(crate::specs::Bays::twin))]
 fn is_twin(map: &[u8], j: usize, k: usize) -> bool
     requires { Shaped (view_of map.now) × ((j < 8 * (view_of map.now).count) × (k < 8 * (view_of map.now).count)) }
     ensures { result ≡ twin (view_of map.now) j k }

@@ -13,6 +13,7 @@ pub enum Side {
 }
 
 // The outer one of two coordinates.
+#[tactic(auto, unfolding(crate::specs::Boxes::outer))]
 fn outer_of(side: Side, a: i32, b: i32) -> i32
     ensures { result ≡ outer side a b }
 {
@@ -62,6 +63,7 @@ fn hull_of(map: &[u8], n: usize) -> Bounds
 }
 
 // A filled slot of a node above the leaves carries that box.
+#[tactic(auto, unfolding(crate::specs::Boxes::tight_ok))]
 pub fn tight_ok(map: &[u8], j: usize) -> bool
     requires { Shaped (view_of map.now)
         × ((j < 8 * (view_of map.now).count) × (filled (view_of map.now) j ≡ true → (view_of map.now).ref j < (view_of map.now).count)) }

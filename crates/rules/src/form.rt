@@ -9,6 +9,7 @@ use floor::Slot;
 use measure::Span;
 
 // What a filled slot refers to.
+#[tactic(auto, unfolding(crate::specs::Form::refer_ok))]
 fn refer_ok(map: &[u8], j: usize, s: Slot) -> bool
     requires { Shaped (view_of map.now) × ((j < 8 * (view_of map.now).count) × (s ≡ slot_of (view_of map.now) j)) }
     ensures { result ≡ refer_ok (view_of map.now) j }
@@ -21,6 +22,7 @@ fn refer_ok(map: &[u8], j: usize, s: Slot) -> bool
     ((reference as usize) < floor::count_of(map)) & (zone == 0)
 }
 
+#[tactic(auto, unfolding(crate::specs::Form::entry_ok))]
 fn entry_ok(map: &[u8], j: usize, s: Slot) -> bool
     requires { Shaped (view_of map.now) × ((j < 8 * (view_of map.now).count) × (s ≡ slot_of (view_of map.now) j)) }
     ensures { result ≡ entry_ok (view_of map.now) j }
@@ -30,6 +32,7 @@ fn entry_ok(map: &[u8], j: usize, s: Slot) -> bool
     x.in_order() & y.in_order() & refer_ok(map, j, s) & s.clear
 }
 
+#[tactic(auto, unfolding(crate::specs::Leaning::blank_slot))]
 fn blank_ok(s: Slot) -> bool
     ensures { result ≡ blank_slot s }
 {
@@ -39,6 +42,7 @@ fn blank_ok(s: Slot) -> bool
     is_same(x, zero) & is_same(y, zero) & (s.reference == 0) & (s.zone == 0) & s.clear
 }
 
+#[tactic(auto, unfolding(crate::specs::Form::slot_ok, crate::specs::Form::blank_ok, crate::specs::Leaning::blank_slot))]
 pub fn slot_ok(map: &[u8], j: usize) -> bool
     requires { Shaped (view_of map.now) × (j < 8 * (view_of map.now).count) }
     ensures { result ≡ slot_ok (view_of map.now) j }

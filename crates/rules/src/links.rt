@@ -34,6 +34,7 @@ pub fn naming_counts(map: &[u8]) -> [u16; 256]
     counts
 }
 
+#[tactic(auto, unfolding(crate::specs::Links::named_ok))]
 pub fn named_ok(map: &[u8], times: u16, n: usize) -> bool
     requires { Shaped (view_of map.now) × ((n < (view_of map.now).count) × (times ≡ named (view_of map.now) n)) }
     ensures { result ≡ named_ok (view_of map.now) n }
@@ -47,6 +48,7 @@ pub fn named_ok(map: &[u8], times: u16, n: usize) -> bool
 }
 
 // A filled slot of a node above the leaves names a node one level lower.
+#[tactic(auto, unfolding(crate::specs::Links::step_ok))]
 pub fn step_ok(map: &[u8], j: usize) -> bool
     requires { Shaped (view_of map.now)
         × ((j < 8 * (view_of map.now).count) × (filled (view_of map.now) j ≡ true → (view_of map.now).ref j < (view_of map.now).count)) }

@@ -4,6 +4,7 @@ ghost use Rattle.rules.specs.Spans.{same_span};
 
 use measure::Span;
 
+#[tactic(auto, unfolding(crate::specs::Spans::same_span))]
 pub fn is_same(s: Span, t: Span) -> bool
     ensures { result ≡ same_span s t }
 {

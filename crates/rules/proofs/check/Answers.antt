@@ -21,18 +21,35 @@ past_header : (m : List ℕ) → header_ok (view_of m) ≡ true → Left m order
 unfolding verdict_of
 past_header m h = rw h
 
-past : (m : List ℕ) (r : Rule) (rs : List Rule) {f : ℕ} → Left m (r ∷ rs) → f ≡ lowest_fault r (view_of m) → (view_of m).count ≤ f → Left m rs
-past m r rs left e h = left ∙ more (view_of m) r rs e h
+-- a rule was tried, and its lowest fault is none of the n nodes
+abbrev Passed : List ℕ → ℕ → Rule → ℕ → Type 0
+Passed m n r f = (f ≡ lowest_fault r (view_of m)) × (n ≤ f)
 
-broken : (m : List ℕ) (r : Rule) (rs : List Rule) {f : ℕ} → Left m (r ∷ rs) → f ≡ lowest_fault r (view_of m) → f < (view_of m).count → Broken r f ≡ verdict_of m
-broken m r rs left e h = stop (view_of m) r rs e h ∙ sym left
+leans : (m : List ℕ) → KeptAll Form (view_of m) → (j : ℕ) → j < 8 * (view_of m).count → leaf (view_of m) (j / 8) ≡ false → filled (view_of m) j ≡ true → (view_of m).ref j < (view_of m).count
+leans m k j h l f = form_links (view_of m) k j h (rw (l, f))
 
 none_left : (m : List ℕ) → Left m [] → Accepted ≡ verdict_of m
 unfolding first_broken
 none_left m left = sym left
 
-leans : (m : List ℕ) → KeptAll Form (view_of m) → (j : ℕ) → j < 8 * (view_of m).count → leaf (view_of m) (j / 8) ≡ false → filled (view_of m) j ≡ true → (view_of m).ref j < (view_of m).count
-leans m k j h l f = form_links (view_of m) k j h (rw (l, f))
+module _ (m : List ℕ) {n : ℕ} (right : header_ok (view_of m) ≡ true) (count : n ≡ (view_of m).count) where
+  past : (r : Rule) (rs : List Rule) {f : ℕ} → Left m (r ∷ rs) → Passed m n r f → Left m rs
+  past r rs left p = left ∙ more (view_of m) r rs p.0 (omega (arith, count, p.1))
+
+  broken : (r : Rule) (rs : List Rule) {f : ℕ} → Left m (r ∷ rs) → f ≡ lowest_fault r (view_of m) → f < n → Broken r f ≡ verdict_of m
+  broken r rs left e h = stop (view_of m) r rs e (omega (arith, count)) ∙ sym left
+
+  past_form : {f : ℕ} → Passed m n Form f → Left m (Fill ∷ Links ∷ Boxes ∷ Bays ∷ [])
+  past_form p = past Form _ (past_header m right) p
+
+  past_fill : {f g : ℕ} → Passed m n Form f → Passed m n Fill g → Left m (Links ∷ Boxes ∷ Bays ∷ [])
+  past_fill p q = past Fill _ (past_form p) q
+
+  past_links : {f g h : ℕ} → Passed m n Form f → Passed m n Fill g → Passed m n Links h → Left m (Boxes ∷ Bays ∷ [])
+  past_links p q r = past Links _ (past_fill p q) r
+
+  past_boxes : {f g h i : ℕ} → Passed m n Form f → Passed m n Fill g → Passed m n Links h → Passed m n Boxes i → Left m (Bays ∷ [])
+  past_boxes p q r s = past Boxes _ (past_links p q r) s
 
 pub returns-then-not-header_ok : goal.returns-then-not-header_ok
 unfolding verdict_of
@@ -47,9 +64,10 @@ first_fault-form-requires c =
 
 pub returns-then-form-count : goal.returns-then-form-count
 returns-then-form-count c =
-    let m = c.args.map.now in
-    let header = past_header m (sym c.if-not-header_ok.ensures) in
-    broken m Form _ header c.first_fault-form.ensures (omega (arith, c.count_of-count.ensures))
+    broken c.args.map.now (sym c.if-not-header_ok.ensures) c.count_of-count.ensures Form _
+    (past_header _ (sym c.if-not-header_ok.ensures))
+    c.first_fault-form.ensures
+    c.if-form-count.true
 
 pub first_fault-fill-requires : goal.first_fault-fill-requires
 first_fault-fill-requires c =
@@ -57,11 +75,10 @@ first_fault-fill-requires c =
 
 pub returns-then-fill-count : goal.returns-then-fill-count
 returns-then-fill-count c =
-    let m = c.args.map.now in
-    let n = c.count_of-count.ensures in
-    let header = past_header m (sym c.if-not-header_ok.ensures) in
-    let form = past m Form _ header c.first_fault-form.ensures (omega (arith, n)) in
-    broken m Fill _ form c.first_fault-fill.ensures (omega (arith, n))
+    broken c.args.map.now (sym c.if-not-header_ok.ensures) c.count_of-count.ensures Fill _
+    (past_form _ (sym c.if-not-header_ok.ensures) c.count_of-count.ensures (c.first_fault-form.ensures, c.if-form-count.false))
+    c.first_fault-fill.ensures
+    c.if-fill-count.true
 
 pub naming_counts-counts-requires : goal.naming_counts-counts-requires
 naming_counts-counts-requires c =
@@ -76,12 +93,12 @@ first_fault-link-requires c =
 
 pub returns-then-link-count : goal.returns-then-link-count
 returns-then-link-count c =
-    let m = c.args.map.now in
-    let n = c.count_of-count.ensures in
-    let header = past_header m (sym c.if-not-header_ok.ensures) in
-    let form = past m Form _ header c.first_fault-form.ensures (omega (arith, n)) in
-    let fill = past m Fill _ form c.first_fault-fill.ensures (omega (arith, n)) in
-    broken m Links _ fill c.first_fault-link.ensures (omega (arith, n))
+    broken c.args.map.now (sym c.if-not-header_ok.ensures) c.count_of-count.ensures Links _
+    (past_fill _ (sym c.if-not-header_ok.ensures) c.count_of-count.ensures
+    (c.first_fault-form.ensures, c.if-form-count.false)
+    (c.first_fault-fill.ensures, c.if-fill-count.false))
+    c.first_fault-link.ensures
+    c.if-link-count.true
 
 pub first_fault-loose-requires : goal.first_fault-loose-requires
 first_fault-loose-requires c =
@@ -91,35 +108,35 @@ first_fault-loose-requires c =
 
 pub returns-then-loose-count : goal.returns-then-loose-count
 returns-then-loose-count c =
-    let m = c.args.map.now in
-    let n = c.count_of-count.ensures in
-    let header = past_header m (sym c.if-not-header_ok.ensures) in
-    let form = past m Form _ header c.first_fault-form.ensures (omega (arith, n)) in
-    let fill = past m Fill _ form c.first_fault-fill.ensures (omega (arith, n)) in
-    let links = past m Links _ fill c.first_fault-link.ensures (omega (arith, n)) in
-    broken m Boxes _ links c.first_fault-loose.ensures (omega (arith, n))
+    broken c.args.map.now (sym c.if-not-header_ok.ensures) c.count_of-count.ensures Boxes _
+    (past_links _ (sym c.if-not-header_ok.ensures) c.count_of-count.ensures
+    (c.first_fault-form.ensures, c.if-form-count.false)
+    (c.first_fault-fill.ensures, c.if-fill-count.false)
+    (c.first_fault-link.ensures, c.if-link-count.false))
+    c.first_fault-loose.ensures
+    c.if-loose-count.true
 
 pub first_twin-twin-requires : goal.first_twin-twin-requires
 first_twin-twin-requires c = shape _ (sym c.if-not-header_ok.ensures)
 
 pub returns-then-twin-count : goal.returns-then-twin-count
 returns-then-twin-count c =
-    let m = c.args.map.now in
-    let n = c.count_of-count.ensures in
-    let header = past_header m (sym c.if-not-header_ok.ensures) in
-    let form = past m Form _ header c.first_fault-form.ensures (omega (arith, n)) in
-    let fill = past m Fill _ form c.first_fault-fill.ensures (omega (arith, n)) in
-    let links = past m Links _ fill c.first_fault-link.ensures (omega (arith, n)) in
-    let boxes = past m Boxes _ links c.first_fault-loose.ensures (omega (arith, n)) in
-    broken m Bays [] boxes c.first_twin-twin.ensures (omega (arith, n))
+    broken c.args.map.now (sym c.if-not-header_ok.ensures) c.count_of-count.ensures Bays []
+    (past_boxes _ (sym c.if-not-header_ok.ensures) c.count_of-count.ensures
+    (c.first_fault-form.ensures, c.if-form-count.false)
+    (c.first_fault-fill.ensures, c.if-fill-count.false)
+    (c.first_fault-link.ensures, c.if-link-count.false)
+    (c.first_fault-loose.ensures, c.if-loose-count.false))
+    c.first_twin-twin.ensures
+    c.if-twin-count.true
 
 pub returns : goal.returns
 returns c =
-    let m = c.args.map.now in
-    let n = c.count_of-count.ensures in
-    let header = past_header m (sym c.if-not-header_ok.ensures) in
-    let form = past m Form _ header c.first_fault-form.ensures (omega (arith, n)) in
-    let fill = past m Fill _ form c.first_fault-fill.ensures (omega (arith, n)) in
-    let links = past m Links _ fill c.first_fault-link.ensures (omega (arith, n)) in
-    let boxes = past m Boxes _ links c.first_fault-loose.ensures (omega (arith, n)) in
-    none_left m (past m Bays [] boxes c.first_twin-twin.ensures (omega (arith, n)))
+    none_left c.args.map.now
+    (past c.args.map.now (sym c.if-not-header_ok.ensures) c.count_of-count.ensures Bays []
+    (past_boxes _ (sym c.if-not-header_ok.ensures) c.count_of-count.ensures
+    (c.first_fault-form.ensures, c.if-form-count.false)
+    (c.first_fault-fill.ensures, c.if-fill-count.false)
+    (c.first_fault-link.ensures, c.if-link-count.false)
+    (c.first_fault-loose.ensures, c.if-loose-count.false))
+    (c.first_twin-twin.ensures, c.if-twin-count.false))
