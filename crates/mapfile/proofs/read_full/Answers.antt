@@ -7,6 +7,7 @@ use borrow.Rule.Slice.PartMut.{put_mid, post_of}
 use lib.Seq.{take-add, take-append-le}
 use Rattle.mapfile.proofs.read_full.Goals as goal
 
+-- the bytes so far and those of one read stand one after the other
 joined : (a n : ℕ) (xs ys : List ℕ) → a ≤ length xs → n ≤ length ys → take a xs ++ take n ys ≡ take (a + n) (put_mid a (length xs - a) xs ys)
 joined a n xs ys within fits =
     let room = length xs - a in

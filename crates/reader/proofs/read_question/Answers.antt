@@ -23,6 +23,7 @@ scans c =
     ∷ scan_of t c.line-bay.result
     ∷ []
 
+-- each is of its field, and begins where the one before it ended
 chain : (c : After-line-bay) → Chain question_fields c.args.text.now (scans c)
 unfolding scans
 chain c = (
