@@ -10,7 +10,7 @@ use lib.Dec.{eqb, leb, ltb}
 use lib.ListN.{length, length-take, length-map}
 use borrow.Author.Tests.{leb-true, ltb-false, eqb-true, eqb-false, eq-eqb, ne_eqb, not-false}
 use Rattle.numbers.specs.Tried.{Test, test, first_given}
-use Rattle.numbers.proofs.Tests.{both}
+use Rattle.std.proofs.lemmas.Bool.{and_parts}
 use Rattle.numbers.proofs.Tried.{none_given, Numbered, given_append}
 use Rattle.measure.specs.Answer.{point_ok}
 use Rattle.floor.specs.View.{view_of}
@@ -40,7 +40,7 @@ module _ (q : Question) (size : ℕ) where
       let k = none_given (test 2 (not (count_ok q.k))) _ (λ z. omega arith) p.1 in
       let b = none_given (test 3 (not (badge_ok q.badge.0))) _ (λ z. omega arith) k.1 in
       let s = none_given (test 4 (ltb size (record_size * q.k))) [] (λ z. omega arith) b.1 in
-      let count = both (leb 1 q.k) (leb q.k 100) (not-false (count_ok q.k) k.0) in
+      let count = and_parts (leb 1 q.k) (leb q.k 100) (not-false (count_ok q.k) k.0) in
       record {
         point = not-false (point_ok q.from) p.0;
         k_low = leb-true 1 q.k count.0;

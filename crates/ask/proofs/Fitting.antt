@@ -5,7 +5,7 @@ use mathlib.Core.Path.{◌≡◌, subst}
 use mathlib.Core.Bool.{true}
 use mathlib.Core.List.Memᴰ
 use mathlib.Core.List.{List, Memᴰ}
-use Rattle.numbers.proofs.Tests.{both}
+use Rattle.std.proofs.lemmas.Bool.{and_parts}
 use Rattle.words.specs.Words.{Bytes}
 use Rattle.measure.specs.declared.Point.{Point}
 use Rattle.floor.specs.View.{view_of, leaf, filled, bay}
@@ -24,7 +24,7 @@ use Rattle.ask.proofs.Replies.{accepted_keeps}
 pub record_small : (m : List ℕ) (p : Point) → Bytes m → Ground (view_of m) p → (j : ℕ) → j < 8 * (view_of m).count → bay (view_of m) j ≡ true
     → Small (record_at (view_of m) (distance_to (view_of m) p) j)
 record_small m p bytes ground j h b =
-    let is_filled = (both (leaf (view_of m) (j / 8)) (filled (view_of m) j) b).1 in
+    let is_filled = (and_parts (leaf (view_of m) (j / 8)) (filled (view_of m) j) b).1 in
     record {
       bay = ref_small m (λ i. record { fits = bytes i }) j;
       zone = zone_small m (λ i. record { fits = bytes i }) j;

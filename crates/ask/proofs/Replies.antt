@@ -1,6 +1,6 @@
 -- The reply, case by case: each refusal where it is due, and the page where none is. Assumes nothing.
 use Prim.Native.Nat.{ℕ}
-use mathlib.Core.Path.{◌≡◌, refl, sym, ap, ◌∙◌}
+use mathlib.Core.Path.{◌≡◌, sym, ap, ◌∙◌}
 use mathlib.Core.Bool.{true, false}
 use mathlib.Core.List.{List}
 use native.Mathlib.Omega.{arith}
@@ -8,28 +8,25 @@ use lib.ListN.{length}
 use borrow.Author.Tests.{eqb-true}
 use Rattle.numbers.specs.Tried.{first_given}
 use Rattle.floor.specs.View.{view_of}
-use Rattle.rules.specs.declared.Verdict.{Verdict}
-use Rattle.rules.specs.declared.Verdict.TheVariants.{Accepted, BadHeader, Broken}
-use Rattle.rules.specs.declared.Rule.TheVariants.{Form, Fill, Links, Boxes, Bays}
 use Rattle.rules.specs.Verdicts.{number_of, verdict_of, Keeps}
-use Rattle.rules.proofs.Verdicts.{accepted_sound}
+use Rattle.nearest.proofs.Checked.{number_keeps}
 use Rattle.question.specs.declared.Question.{Question}
+use Rattle.ask.specs.declared.Refusal.{Refusal}
+use Rattle.ask.specs.declared.Refusal.TheVariants.{PointOutside, CountOutside, BadgeRefused, RoomTooShort, MapRefused}
 use Rattle.ask.specs.Told.{page_of}
-use Rattle.ask.specs.Reply.{accepted, own_tests, refused, answered, reply_of}
+use Rattle.ask.specs.Reply.{refusal_number, accepted, own_tests, refused, answered, reply_of}
 use Rattle.ask.proofs.Answers.{refusal_own, refusal_map, refusal_none, reply_page, reply_refused}
 
--- number 0 is the verdict of no fault
-number_zero : (r : Verdict) → number_of r ≡ 0 → r ≡ Accepted
-number_zero Accepted e = refl
-number_zero BadHeader e = absurd (omega arith)
-number_zero (Broken Form n) e = absurd (omega arith)
-number_zero (Broken Fill n) e = absurd (omega arith)
-number_zero (Broken Links n) e = absurd (omega arith)
-number_zero (Broken Boxes n) e = absurd (omega arith)
-number_zero (Broken Bays n) e = absurd (omega arith)
-
 pub accepted_keeps : (map : List ℕ) → accepted map ≡ true → Keeps (view_of map)
-accepted_keeps map e = accepted_sound map (number_zero (verdict_of map) (eqb-true (number_of (verdict_of map)) 0 e))
+accepted_keeps map e = number_keeps map (eqb-true (number_of (verdict_of map)) 0 e)
+
+-- no refusal has the number 0
+pub refusal_some : (r : Refusal) → refusal_number r ≡ 0 → ⊥
+refusal_some PointOutside e = omega arith
+refusal_some CountOutside e = omega arith
+refusal_some BadgeRefused e = omega arith
+refusal_some RoomTooShort e = omega arith
+refusal_some MapRefused e = omega arith
 
 module _ (map : List ℕ) (q : Question) (room : List ℕ) where
   abbrev own : ℕ

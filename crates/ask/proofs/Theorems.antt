@@ -21,8 +21,9 @@ use Rattle.rules.specs.Verdicts.{Keeps, number_of}
 use Rattle.rules.proofs.Verdicts.{accepted_complete}
 use Rattle.question.specs.declared.Question.{Question}
 use Rattle.question.proofs.Badges.{badge_is}
-use Rattle.ask.specs.declared.Answer.{Answer}
-use Rattle.ask.specs.declared.Answer.TheVariants.{PointOutside, CountOutside, BadgeRefused, RoomTooShort, MapRefused, Found}
+use Rattle.std.specs.Prelude.{Result, Ok, Err}
+use Rattle.ask.specs.declared.Refusal.{Refusal}
+use Rattle.ask.specs.declared.Refusal.TheVariants.{PointOutside, CountOutside, BadgeRefused, RoomTooShort, MapRefused}
 use Rattle.record.specs.Record.{record_size}
 use Rattle.ask.specs.Reply.{answer_number, answer_found, count_ok, accepted, own_tests, tests, refusal, Reply, given, reply_of}
 use Rattle.ask.specs.Table.{BadMap, own_rows, rows, Table}
@@ -81,20 +82,21 @@ module _ (map : List ℕ) (q : Question) (size : ℕ) (bits : q.badge.0 < 2 ^ 32
 -- ---- the contract leaves no choice
 
 -- the answer of a number and a found
-abbrev answer_of : ℕ → ℕ → Answer
+abbrev answer_of : ℕ → ℕ → Result ℕ Refusal
 answer_of n f =
-    cond (eqb n 1) PointOutside
-    (cond (eqb n 2) CountOutside (cond (eqb n 3) BadgeRefused (cond (eqb n 4) RoomTooShort (cond (eqb n 5) MapRefused (Found f)))))
+    cond (eqb n 1) (Err PointOutside)
+    (cond (eqb n 2) (Err CountOutside)
+    (cond (eqb n 3) (Err BadgeRefused) (cond (eqb n 4) (Err RoomTooShort) (cond (eqb n 5) (Err MapRefused) (Ok f)))))
 
-answer_back : (a : Answer) → a ≡ answer_of (answer_number a) (answer_found a)
-answer_back PointOutside = refl
-answer_back CountOutside = refl
-answer_back BadgeRefused = refl
-answer_back RoomTooShort = refl
-answer_back MapRefused = refl
-answer_back (Found n) = refl
+answer_back : (a : Result ℕ Refusal) → a ≡ answer_of (answer_number a) (answer_found a)
+answer_back (Err PointOutside) = refl
+answer_back (Err CountOutside) = refl
+answer_back (Err BadgeRefused) = refl
+answer_back (Err RoomTooShort) = refl
+answer_back (Err MapRefused) = refl
+answer_back (Ok n) = refl
 
-pub reply_unique : (map : List ℕ) (q : Question) (room : List ℕ) (a b : Answer) (after after' : List ℕ)
+pub reply_unique : (map : List ℕ) (q : Question) (room : List ℕ) (a b : Result ℕ Refusal) (after after' : List ℕ)
     → given a after ≡ reply_of map q room → given b after' ≡ reply_of map q room → (a ≡ b) × (after ≡ after')
 reply_unique map q room a b after after' h g =
     let e : given a after ≡ given b after' = h ∙ sym g in (

@@ -1,6 +1,6 @@
 -- The question's reply: its number, how many bays were found, and the answer room's bytes after the call. Document 01,
 -- 'The question and its reply'.
-use Rattle.std.specs.Prelude.{◌≡◌, Bool, not, cond, ◌&&◌, List, [], ◌∷◌, ◌++◌, ℕ, ◌*◌, ◌≤◌, eqb, leb, ltb, length}
+use Rattle.std.specs.Prelude.{◌≡◌, Bool, not, cond, ◌&&◌, List, [], ◌∷◌, ◌++◌, ℕ, ◌*◌, ◌≤◌, eqb, leb, ltb, length, Result, Ok, Err}
 use Rattle.numbers.specs.Tried.{Test, test, first_given}
 use Rattle.measure.specs.Answer.{point_ok}
 use Rattle.floor.specs.View.{view_of}
@@ -10,26 +10,26 @@ use Rattle.record.specs.Record.{record_size, room_with}
 use Rattle.question.specs.declared.Question.{Question}
 use Rattle.question.specs.Badge.{badge_ok}
 use Rattle.nearest.specs.Needed.{Searchable}
-use Rattle.ask.specs.declared.Answer.{Answer}
-use Rattle.ask.specs.declared.Answer.TheVariants.{PointOutside, CountOutside, BadgeRefused, RoomTooShort, MapRefused, Found}
+use Rattle.ask.specs.declared.Refusal.{Refusal}
+use Rattle.ask.specs.declared.Refusal.TheVariants.{PointOutside, CountOutside, BadgeRefused, RoomTooShort, MapRefused}
 use Rattle.ask.specs.Told.{page_of}
 
--- the number and the found of each case
-abbrev pub answer_number : Answer → ℕ
-answer_number PointOutside = 1
-answer_number CountOutside = 2
-answer_number BadgeRefused = 3
-answer_number RoomTooShort = 4
-answer_number MapRefused = 5
-answer_number (Found n) = 0
+-- document 01's number of a refusal
+abbrev pub refusal_number : Refusal → ℕ
+refusal_number PointOutside = 1
+refusal_number CountOutside = 2
+refusal_number BadgeRefused = 3
+refusal_number RoomTooShort = 4
+refusal_number MapRefused = 5
 
-abbrev pub answer_found : Answer → ℕ
-answer_found PointOutside = 0
-answer_found CountOutside = 0
-answer_found BadgeRefused = 0
-answer_found RoomTooShort = 0
-answer_found MapRefused = 0
-answer_found (Found n) = n
+-- the number and the found of an answer: n bays found, or a refusal
+abbrev pub answer_number : {A : Type 0} → Result A Refusal → ℕ
+answer_number (Ok x) = 0
+answer_number (Err r) = refusal_number r
+
+abbrev pub answer_found : Result ℕ Refusal → ℕ
+answer_found (Ok n) = n
+answer_found (Err r) = 0
 
 -- 1 to 100 bays may be asked for
 abbrev pub count_ok : ℕ → Bool
@@ -61,7 +61,7 @@ pub record Reply : Type 0 where
   pub room : List ℕ
 
 -- an answer given, with the room as the call left it
-abbrev pub given : Answer → List ℕ → Reply
+abbrev pub given : Result ℕ Refusal → List ℕ → Reply
 given a room = record { number = answer_number a; found = answer_found a; room = room }
 
 -- refused: nothing is found, and the room is as it was
@@ -77,10 +77,9 @@ unfoldable pub reply_of : List ℕ → Question → List ℕ → Reply
 reply_of map q room =
     cond (eqb (refusal map q (length room)) 0) (answered (page_of map q) q.k room) (refused (refusal map q (length room)) room)
 
--- what a question is answered by itself: a refusal, or `Found(0)` where only the map can say more
-pub record OwnAnswer (q : Question) (size : ℕ) (a : Answer) : Type 0 where
-  pub number : answer_number a ≡ first_given (own_tests q size)
-  pub found : answer_found a ≡ 0
+-- what a question is answered by itself: a refusal, or nothing where only the map can say more
+abbrev pub OwnAnswer : Question → ℕ → Result (Unit {0}) Refusal → Type 0
+OwnAnswer q size a = answer_number a ≡ first_given (own_tests q size)
 
 -- a question that may be answered on a map, with a room of so many bytes
 pub record Answerable (map : List ℕ) (q : Question) (size : ℕ) : Type 0 where

@@ -7,98 +7,85 @@
 mod page;
 
 ghost use Rattle.std.specs.Prelude.{◌≡◌};
-ghost use Rattle.ask.specs.Reply.{answer_number, answer_found, given, reply_of, count_ok, accepted, OwnAnswer};
+ghost use Rattle.ask.specs.Reply.{refusal_number, answer_number, answer_found, given, reply_of, count_ok, accepted, OwnAnswer};
 
 pub use page::fill_page;
 use question::Question;
 use record::SIZE;
-use rules::check;
 
-// What a question is answered: `answer_number` and `answer_found` give document 01's numbers for each case.
-#[derive(Clone, Copy)]
-pub enum Answer {
-    PointOutside,
-    CountOutside,
-    BadgeRefused,
-    RoomTooShort,
-    MapRefused,
-    Found(usize),
+// What a question is refused for; its number is document 01's.
+#[derive(Clone, Copy, PartialEq, Eq)]
+pub enum Refusal {
+    PointOutside = 1,
+    CountOutside = 2,
+    BadgeRefused = 3,
+    RoomTooShort = 4,
+    MapRefused = 5,
 }
 
-impl Answer {
-    pub fn number(self) -> u32
-        ensures { result ≡ answer_number self }
-    {
-        match self {
-            Answer::PointOutside => 1,
-            Answer::CountOutside => 2,
-            Answer::BadgeRefused => 3,
-            Answer::RoomTooShort => 4,
-            Answer::MapRefused => 5,
-            Answer::Found(_) => 0,
-        }
-    }
+impl From<Refusal> for u32 {
+    ghost from_gives = { λ refusal n. n ≡ refusal_number refusal };
 
-    pub fn found(self) -> usize
-        ensures { result ≡ answer_found self }
-    {
-        match self {
-            Answer::PointOutside => 0,
-            Answer::CountOutside => 0,
-            Answer::BadgeRefused => 0,
-            Answer::RoomTooShort => 0,
-            Answer::MapRefused => 0,
-            Answer::Found(n) => n,
-        }
+    fn from(refusal: Refusal) -> u32 {
+        refusal as u32
     }
+}
+
+// Document 01's number of an answer.
+pub fn number_of(answer: Result<usize, Refusal>) -> u32
+    ensures { result ≡ answer_number answer }
+{
+    answer.map_or_else(u32::from, |_| 0)
+}
+
+// How many bays an answer found.
+pub fn found_in(answer: Result<usize, Refusal>) -> usize
+    ensures { result ≡ answer_found answer }
+{
+    answer.unwrap_or(0)
 }
 
 // Whether so many bays may be asked for.
 fn count_ok(k: usize) -> bool
     ensures { result ≡ count_ok k }
 {
-    (1 <= k) & (k <= 100)
+    (1..=100).contains(&k)
 }
 
-// What a question is answered by itself, with a room of so many bytes: a refusal, or `Found(0)` where only the map can
-// say more. The refusals are tried in document 01's order.
-pub fn own_answer(q: Question, size: usize) -> Answer
+// What a question is refused for by itself, with a room of so many bytes; the refusals are tried in document 01's order.
+#[tactic(auto, unfolding(numbers::specs::Tried::first_given))]
+pub fn own_answer(q: Question, size: usize) -> Result<(), Refusal>
     ensures { OwnAnswer q size result }
 {
-    let point = q.from.in_range();
-    let count = count_ok(q.k);
-    let badge = q.badge.accepted();
-    if !point {
-        return Answer::PointOutside;
+    if !q.from.in_range() {
+        return Err(Refusal::PointOutside);
     }
-    if !count {
-        return Answer::CountOutside;
+    if !count_ok(q.k) {
+        return Err(Refusal::CountOutside);
     }
-    if !badge {
-        return Answer::BadgeRefused;
+    if !q.badge.accepted() {
+        return Err(Refusal::BadgeRefused);
     }
     if size < SIZE * q.k {
-        return Answer::RoomTooShort;
+        return Err(Refusal::RoomTooShort);
     }
-    Answer::Found(0)
+    Ok(())
 }
 
 // Whether a map is accepted.
 pub fn is_accepted(map: &[u8]) -> bool
     ensures { result ≡ accepted map.now }
 {
-    check(map).number() == 0
+    rules::check(map).is_ok()
 }
 
-pub fn ask(map: &[u8], q: Question, room: &mut [u8]) -> Answer
+#[tactic(auto, using(crate::proofs::Replies::refused_map))]
+pub fn ask(map: &[u8], q: Question, room: &mut [u8]) -> Result<usize, Refusal>
     ensures { given result room.new ≡ reply_of map.now q room.old }
 {
-    let own = own_answer(q, room.len());
-    if own.number() != 0 {
-        return own;
-    }
+    own_answer(q, room.len())?;
     if !is_accepted(map) {
-        return Answer::MapRefused;
+        return Err(Refusal::MapRefused);
     }
-    Answer::Found(fill_page(map, q, room))
+    Ok(fill_page(map, q, room))
 }

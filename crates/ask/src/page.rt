@@ -1,24 +1,23 @@
 // A page in the answer room: a record for each bay, and zeros where there is none.
 // What is here has a `requires`: whoever calls it has checked the map and the question, and tested the room's length.
 ghost use Rattle.std.specs.Prelude.{◌≡◌, ◌*◌, ◌<◌, ◌≤◌, length};
-ghost use Rattle.floor.specs.View.{view_of, Shaped};
+ghost use Rattle.floor.specs.Seen.{seen};
 ghost use Rattle.record.specs.Record.{record_size, room_with};
 ghost use Rattle.nearest.specs.Best.{slot_in, Carried};
 ghost use Rattle.ask.specs.Told.{record_of, told_of};
 ghost use Rattle.ask.specs.Reply.{Answerable, PageFilled};
 
-use floor::slot_of;
-use measure::HowFar;
+use floor::FloorMap;
 use nearest::{Best, Key, nearest};
 use question::Question;
 use record::{Record, put_record};
 
 // What is told of the bay of a key: the slot is read once.
-fn record_of(map: &[u8], key: Key) -> Record
-    requires { Shaped (view_of map.now) × (slot_in key.0 < 8 * (view_of map.now).count) }
-    ensures { result ≡ record_of (view_of map.now) key.0 }
+fn record_of(map: &FloorMap, key: Key) -> Record
+    requires { slot_in key.0 < 8 * (seen map.now).count }
+    ensures { result ≡ record_of (seen map.now) key.0 }
 {
-    let slot = slot_of(map, key.slot());
+    let slot = map.slot(key.slot());
     Record {
         bay: slot.reference,
         zone: slot.zone,
@@ -26,25 +25,19 @@ fn record_of(map: &[u8], key: Key) -> Record
     }
 }
 
-fn write_page(map: &[u8], best: Best, k: usize, room: &mut [u8])
-    requires { Shaped (view_of map.now) × Carried (view_of map.now) k best × (record_size * k ≤ length room.old) }
-    ensures { room.new ≡ room_with k (told_of (view_of map.now) best) room.old }
+// Kept (5): a key's slot is asked for where it is read: a `Key` knows no map.
+fn write_page(map: &FloorMap, best: &Best, k: usize, room: &mut [u8])
+    requires carried { Carried (seen map.now) k best.now }
+    requires fits { record_size * k ≤ length room.old }
+    ensures { room.new ≡ room_with k (told_of (seen map.now) best.now) room.old }
 {
-    let mut i: usize = 0;
-    while i < k {
-        if i < best.len {
-            let number = best.keys[i];
-            let r = record_of(map, Key(number));
-            put_record(room, i, r);
+    for i in 0..k {
+        let r = if i < best.len {
+            record_of(map, Key(best.keys[i]))
         } else {
-            let none = Record {
-                bay: 0,
-                zone: 0,
-                far: HowFar(0),
-            };
-            put_record(room, i, none);
-        }
-        i += 1;
+            Record::default()
+        };
+        put_record(room, i, r);
     }
 }
 
@@ -53,7 +46,8 @@ pub fn fill_page(map: &[u8], q: Question, room: &mut [u8]) -> usize
     requires { Answerable map.now q (length room.old) }
     ensures { PageFilled map.now q room.old room.new result }
 {
-    let best = nearest(map, q);
-    write_page(map, best, q.k, room);
+    let map = FloorMap { bytes: map };
+    let best = nearest(&map, q);
+    write_page(&map, &best, q.k, room);
     best.len
 }

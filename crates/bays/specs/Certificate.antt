@@ -1,10 +1,10 @@
 -- A certificate that no bay number stands twice: a way to find a slot from a bay number alone, which finds every bay
--- again. How its table was come by does not matter. An entry of the table is a slot's number and one more, or 0.
-use Rattle.std.specs.Prelude.{Bool, true, cond, ◌&&◌, List, ℕ, zero, suc, ◌+◌, ◌*◌, ◌-◌, ◌/◌, ◌%◌, eqb, leb, ltb, get_or}
+-- again. How it was come by does not matter. An entry is a slot's number and one more, or 0.
+use Rattle.std.specs.Prelude.{Bool, true, cond, ◌&&◌, List, [], ◌∷◌, ℕ, zero, suc, ◌+◌, ◌*◌, ◌-◌, ◌/◌, ◌%◌, eqb, leb, ltb, get_or}
+use Rattle.std.specs.List.Sorted.{IsNonDecreasingBy}
 use Rattle.numbers.specs.Below.{all_below}
 use Rattle.floor.specs.View.{View, bay}
-use Rattle.bays.specs.declared.certificate.Way.{Way}
-use Rattle.bays.specs.declared.certificate.Way.TheVariants.{Hashed, Sorted}
+use Rattle.bays.specs.declared.sorted.Key.{Key}
 
 -- the number that the slot of an entry refers to; 0 where the entry names no slot of the map
 unfoldable pub entry_ref : View → ℕ → ℕ
@@ -21,23 +21,18 @@ walk_of v table b (suc left) at =
     cond (eqb (get_or table at 0) 0) 0
     (cond (eqb (entry_ref v (get_or table at 0)) b) (get_or table at 0) (walk_of v table b left ((at + 1) % 4096)))
 
--- a step up to an entry of the first n that refers to b or less
-unfoldable pub step_of : View → List ℕ → ℕ → ℕ → ℕ → ℕ → ℕ
-step_of v table n b at step = cond (ltb (at + step) n && leb (entry_ref v (get_or table (at + step) 0)) b) (at + step) at
+-- no key has a lower number than one before it
+abbrev pub InOrder : List Key → Type 0
+InOrder keys = IsNonDecreasingBy (λ k. k.number) keys
 
--- so many steps, each half of the one before
-unfoldable pub seek_of : View → List ℕ → ℕ → ℕ → ℕ → ℕ → ℕ → ℕ
-seek_of v table n b zero step at = at
-seek_of v table n b (suc left) step at = seek_of v table n b left (step / 2) (step_of v table n b at step)
-
--- the entry found for b, in a table of n entries
-abbrev pub find_of : Way → View → List ℕ → ℕ → ℕ → ℕ
-find_of Hashed v table n b = walk_of v table b 64 (home_of b)
-find_of Sorted v table n b = get_or table (seek_of v table n b 11 1024 0) 0
+-- the entry of the first key whose number is b or more; or 0
+unfoldable pub entry_from : List Key → ℕ → ℕ
+entry_from [] b = 0
+entry_from (k ∷ ks) b = cond (ltb k.number b) (entry_from ks b) k.entry
 
 -- slot j, where that is a bay, is found from its number
-unfoldable pub found_at : Way → View → List ℕ → ℕ → ℕ → Bool
-found_at way v table n j = cond (bay v j) (eqb (find_of way v table n (v.ref j)) (j + 1)) true
+unfoldable pub found_at : (ℕ → ℕ) → View → ℕ → Bool
+found_at find v j = cond (bay v j) (eqb (find (v.ref j)) (j + 1)) true
 
-unfoldable pub found_all : Way → View → List ℕ → ℕ → Bool
-found_all way v table n = all_below (λ node. all_below (λ i. found_at way v table n (8 * node + i)) 8) v.count
+unfoldable pub found_all : (ℕ → ℕ) → View → Bool
+found_all find v = all_below (λ node. all_below (λ i. found_at find v (8 * node + i)) 8) v.count

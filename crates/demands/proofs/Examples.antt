@@ -1,5 +1,6 @@
 -- The hypotheses of demand 3 can be met, by maps of different height; and without the same bays its conclusion fails.
 -- Assumes nothing.
+use Rattle.std.specs.Prelude.{Ok}
 use Prim.Native.Nat.{ℕ, zero, suc, ◌*◌}
 use native.Mathlib.Omega.{arith}
 use mathlib.Core.Path.{◌≡◌, refl, sym, ap, ◌∙◌}
@@ -11,7 +12,7 @@ use lib.IntN.{pos}
 use lib.Dec.{eqb, ltb}
 use lib.ListN.{length, replicate}
 use borrow.Author.Tests.{ltb-true}
-use Rattle.numbers.proofs.Tests.{both}
+use Rattle.std.proofs.lemmas.Bool.{and_parts}
 use Rattle.measure.specs.Axis.{in_range, span_in, square_of, nearest_on}
 use Rattle.measure.specs.Axes.{min_dist}
 use Rattle.words.specs.Words.{Bytes, le_at, le_bytes}
@@ -24,7 +25,6 @@ use Rattle.rules.specs.Fill.{fill_ok}
 use Rattle.rules.specs.Links.{named, named_ok, step_ok, links_ok}
 use Rattle.rules.specs.Spans.{same_span}
 use Rattle.rules.specs.Boxes.{tight_ok, hull, outer, boxes_ok}
-use Rattle.rules.specs.declared.Verdict.TheVariants.{Accepted}
 use Rattle.rules.specs.Verdicts.{number_of, first_broken, verdict_of}
 use Rattle.tree.specs.Examples.{example_map}
 use Rattle.tree.proofs.Examples.{example_accepted}
@@ -49,11 +49,11 @@ use Rattle.demands.proofs.Demands.{demand_3}
 
 -- ---- the maps are accepted, by computing the verdict
 
-computed : (verdict_of tall_map ≡ Accepted) × (verdict_of moved_map ≡ Accepted)
+computed : (verdict_of tall_map ≡ Ok tt) × (verdict_of moved_map ≡ Ok tt)
 unfolding verdict_of first_broken header_ok fields_ok form_ok slot_ok entry_ok refer_ok blank_ok fill_ok links_ok named_ok named step_ok same_span boxes_ok tight_ok hull outer bays_ok lone twin view_of filled le_at le_bytes slot_bytes slots_bytes in_range span_in lib.Count.ones lib.Count.ones_in
 computed = (refl, refl)
 
-taken : (m : List ℕ) → verdict_of m ≡ Accepted → accepted m ≡ true
+taken : (m : List ℕ) → verdict_of m ≡ Ok tt → accepted m ≡ true
 taken m e = ap (λ r. eqb (number_of r) 0) e
 
 pub example_taken : accepted example_map ≡ true
@@ -124,8 +124,8 @@ bytes_ok (x ∷ xs) = ltb x 256 && bytes_ok xs
 
 bytes_are : (l : List ℕ) → bytes_ok l ≡ true → Bytes l
 bytes_are [] e i = omega arith
-bytes_are (x ∷ xs) e zero = ltb-true x 256 (both (ltb x 256) (bytes_ok xs) e).0
-bytes_are (x ∷ xs) e (suc i) = bytes_are xs (both (ltb x 256) (bytes_ok xs) e).1 i
+bytes_are (x ∷ xs) e zero = ltb-true x 256 (and_parts (ltb x 256) (bytes_ok xs) e).0
+bytes_are (x ∷ xs) e (suc i) = bytes_are xs (and_parts (ltb x 256) (bytes_ok xs) e).1 i
 
 abbrev pub turn : List ℕ → ℕ → Turn
 turn m k = record { map = m; k = k; room = replicate 32 9 }

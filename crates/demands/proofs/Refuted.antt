@@ -1,4 +1,5 @@
 -- The wrong ways of replying fail a demand, each on bytes: the demands shut them out. Assumes nothing.
+use Rattle.std.specs.Prelude.{Err}
 use Prim.Native.Nat.{ℕ}
 use native.Mathlib.Omega.{arith}
 use mathlib.Core.Path.{◌≡◌, refl, sym, ap, ap₂, ◌∙◌}
@@ -15,7 +16,7 @@ use Rattle.floor.specs.Written.{slot_bytes, slots_bytes}
 use Rattle.floor.specs.View.{view_of, filled}
 use Rattle.rules.specs.Header.{fields_ok, header_ok}
 use Rattle.rules.specs.Form.{form_ok}
-use Rattle.rules.specs.declared.Verdict.TheVariants.{BadHeader, Broken}
+use Rattle.rules.specs.declared.Fault.TheVariants.{BadHeader, Broken}
 use Rattle.rules.specs.declared.Rule.TheVariants.{Form}
 use Rattle.rules.specs.Verdicts.{number_of, first_broken, verdict_of}
 use Rattle.tree.specs.Flat.{all_bays}
@@ -54,7 +55,7 @@ pub refuses_all_fails : Demand1 refuses_all → ⊥
 refuses_all_fails d = absurd (omega (arith, d.tried example_map question zeros, none example_map example_taken))
 
 -- a map of no bytes is refused
-no_map : verdict_of [] ≡ BadHeader
+no_map : verdict_of [] ≡ Err BadHeader
 unfolding verdict_of header_ok view_of
 no_map = refl
 
@@ -158,7 +159,7 @@ later_empty_fails d =
 abbrev tall_root : List ℕ
 tall_root = header 1 0 1 ++ node 1 0 ++ blanks 8
 
-tall_root_lem : verdict_of tall_root ≡ Broken Form 0
+tall_root_lem : verdict_of tall_root ≡ Err (Broken Form 0)
 unfolding verdict_of first_broken header_ok fields_ok form_ok view_of filled le_at le_bytes slot_bytes slots_bytes
 tall_root_lem = refl
 

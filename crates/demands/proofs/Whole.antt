@@ -7,7 +7,7 @@ use mathlib.Core.List.Memᴰ
 use mathlib.Core.List.{List, [], ◌∷◌, map, map-map, Memᴰ}
 use mathlib.Core.Bool.{true, true≢false}
 use lib.ListN.{length, length-map}
-use Rattle.numbers.proofs.Tests.{both}
+use Rattle.std.proofs.lemmas.Bool.{and_parts}
 use Rattle.measure.specs.declared.Point.{Point}
 use Rattle.floor.specs.View.{View, view_of, leaf, filled}
 use Rattle.rules.specs.declared.Rule.TheVariants.{Bays}
@@ -72,7 +72,7 @@ module _ (m : List ℕ) (badge : ℕ) (point : Point) where
 -- a bay has a number and a zone, by the form rule
 bay_form : (v : View) → Keeps v → (j : ℕ) → BaySlot v j → (v.ref j ≡ 0 → ⊥) × (v.zone j < 32)
 bay_form v keeps j b =
-    let p = both (leaf v (j / 8)) (filled v j) b.1 in
+    let p = and_parts (leaf v (j / 8)) (filled v j) b.1 in
     (entry v (keeps_treelike keeps) j b.0 p.1).refer.bay p.0
 
 -- ---- of an accepted map

@@ -8,52 +8,58 @@ use measure::{Bounds, Span};
 // Room for three nodes.
 const ROOM: usize = 600;
 
-// The bytes of a map with so many nodes.
-pub fn bytes_of(map: &[u8; ROOM], nodes: usize) -> &[u8]
-    requires { nodes ≤ 3 }
-{
-    let size = floor::size_for(nodes);
-    let all: &[u8] = map;
-    &all[..size]
+// A map of so many nodes.
+// Kept (6): the room is the longest of these maps; a `Vec` could run out of memory, which no figure speaks of.
+#[derive(Drop)]
+pub struct Map {
+    room: [u8; ROOM],
+    nodes: usize,
+    ghost fits: { nodes ≤ 3 },
+}
+
+impl Map {
+    pub fn bytes(&self) -> &[u8] {
+        &self.room[..floor::size_for(self.nodes)]
+    }
 }
 
 // A root that is a leaf with no bay.
-pub fn empty() -> [u8; ROOM] {
-    let mut map = [0u8; ROOM];
-    put_header(&mut map, 1, 0, 1);
-    map
+pub fn empty() -> Map {
+    let mut room = [0u8; ROOM];
+    put_header(&mut room, 1, 0, 1);
+    Map { room, nodes: 1 }
 }
 
 // Document 01's example map.
-pub fn example() -> [u8; ROOM] {
-    let mut map = [0u8; ROOM];
-    put_header(&mut map, 1, 0, 1);
-    put_node(&mut map, 0, 0, 7, example_leaf());
-    map
+pub fn example() -> Map {
+    let mut room = [0u8; ROOM];
+    put_header(&mut room, 1, 0, 1);
+    put_node(&mut room, 0, 0, 7, example_leaf());
+    Map { room, nodes: 1 }
 }
 
 // An inner root with one slot, whose box is the leaf's.
-pub fn one_slot() -> [u8; ROOM] {
-    let mut map = [0u8; ROOM];
-    put_header(&mut map, 2, 0, 2);
+pub fn one_slot() -> Map {
+    let mut room = [0u8; ROOM];
+    put_header(&mut room, 2, 0, 2);
     let mut slots = blanks();
     slots[0] = entry(from(0, 20), from(0, 6), 1, 0);
-    put_node(&mut map, 0, 1, 1, slots);
-    put_node(&mut map, 1, 0, 7, example_leaf());
-    map
+    put_node(&mut room, 0, 1, 1, slots);
+    put_node(&mut room, 1, 0, 7, example_leaf());
+    Map { room, nodes: 2 }
 }
 
 // An inner root with two leaves. The far one's box ends at an edge, which is 37 where the box is tight.
-pub fn two_leaves(edge: i32) -> [u8; ROOM] {
-    let mut map = [0u8; ROOM];
-    put_header(&mut map, 3, 0, 2);
+pub fn two_leaves(edge: i32) -> Map {
+    let mut room = [0u8; ROOM];
+    put_header(&mut room, 3, 0, 2);
     let mut slots = blanks();
     slots[0] = entry(from(0, 20), from(0, 6), 1, 0);
     slots[1] = entry(from(30, edge), from(0, 5), 2, 0);
-    put_node(&mut map, 0, 1, 3, slots);
-    put_node(&mut map, 1, 0, 7, example_leaf());
-    put_node(&mut map, 2, 0, 7, far_leaf());
-    map
+    put_node(&mut room, 0, 1, 3, slots);
+    put_node(&mut room, 1, 0, 7, example_leaf());
+    put_node(&mut room, 2, 0, 7, far_leaf());
+    Map { room, nodes: 3 }
 }
 
 // The example map's three bays.

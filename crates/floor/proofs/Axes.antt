@@ -4,7 +4,7 @@ use native.Mathlib.Omega.{arith}
 use mathlib.Core.Path.{◌≡◌}
 use mathlib.Core.Bool.{true, ◌&&◌}
 use lib.IntN.{ℤ}
-use Rattle.numbers.proofs.Tests.{both}
+use Rattle.std.proofs.lemmas.Bool.{and_parts}
 use Rattle.measure.specs.declared.Point.{Point}
 use Rattle.measure.specs.declared.Span.{Span}
 use Rattle.measure.specs.Axis.{in_range, point_in, span_in, Ready}
@@ -19,8 +19,8 @@ module _ (p : Point) (f : ℕ → Span) where
   pub axes_ready : point_ok p ≡ true → ((a : ℕ) → a < axis_count → span_in (f a) ≡ true) → Each Ready (axes_of p (bounds_by f))
   unfolding point_in
   axes_ready ok h =
-      let x = both (in_range p.x) (in_range p.y && true) ok in
-      let y = both (in_range p.y) true x.1 in
+      let x = and_parts (in_range p.x) (in_range p.y && true) ok in
+      let y = and_parts (in_range p.y) true x.1 in
       (record { point = x.0; span = h 0 (omega arith) }, (record { point = y.0; span = h 1 (omega arith) }, tt))
 
   -- a box that lies within another on each axis lies within it

@@ -1,6 +1,5 @@
--- What lies inside a map, how large its numbers are, and that what was written is what is read.
+-- How large a map's numbers are, and that what was written is what is read.
 pub mod Axes
-pub mod Inside
 pub mod Small
 pub mod Fields
 pub mod Own

@@ -95,12 +95,6 @@ pub record Shaped (v : View) : Type 0 where
   pub rooted : v.root < v.count
   pub size : v.size ≡ map_size v.count
 
--- what gives slot i of node n to its readers
-pub record InNode (v : View) (n i : ℕ) : Type 0 where
-  pub shaped : Shaped v
-  pub node : n < v.count
-  pub slot : i < 8
-
 -- a slot that begins at a place is there, and has a span on the axis
 pub record HasSpan (m : List ℕ) (place a : ℕ) : Type 0 where
   pub inside : place + slot_size axis_count ≤ length m

@@ -8,29 +8,31 @@ ghost use Rattle.floor.specs.Written.{span_bytes, slot_bytes, head_bytes, whole,
 use crate::Slot;
 use crate::layout::{REF_FROM, SPAN_SIZE, ZONE_FROM, node_at, slot_at, slot_place};
 use measure::Span;
-use words::{put_i32, put_u16, put_u32};
+use words::Word;
 
 // Low, then high.
+#[tactic(auto, using(crate::proofs::Laid::span_laid))]
 fn put_span(map: &mut [u8], at: usize, s: Span)
     requires { at + span_size ≤ length map.old }
     ensures { map.new ≡ sets map.old at (span_bytes s) }
 {
-    put_i32(map, at, s.low);
-    put_i32(map, at + 4, s.high);
+    s.low.put(map, at);
+    s.high.put(map, at + 4);
 }
 
 // A slot, from a place on.
+#[tactic(auto, using(crate::proofs::Laid::slot_laid))]
 fn put_at(map: &mut [u8], place: usize, s: Slot)
     requires { place + slot_size axis_count ≤ length map.old }
     ensures { map.new ≡ sets map.old place (slot_bytes s) }
 {
     let x = s.bounds.x;
     let y = s.bounds.y;
-    let zone = s.zone as u32;
+    let zone = u32::from(s.zone);
     put_span(map, place, x);
     put_span(map, place + SPAN_SIZE, y);
-    put_u32(map, place + REF_FROM, s.reference);
-    put_u32(map, place + ZONE_FROM, zone);
+    s.reference.put(map, place + REF_FROM);
+    zone.put(map, place + ZONE_FROM);
 }
 
 // Slot j.
@@ -54,6 +56,7 @@ fn put_head(map: &mut [u8], n: usize, level: u8, occupied: u8)
 }
 
 // All of node n.
+// Kept (5): docs/STATEMENTS.md names `put_node` and `put_header`, which take a node's and the header's fields one by one.
 pub fn put_node(map: &mut [u8], n: usize, level: u8, occupied: u8, slots: [Slot; 8])
     requires { HasNode map.old n }
     ensures { map.new ≡ put_node map.old n (whole level occupied slots) }
@@ -64,11 +67,12 @@ pub fn put_node(map: &mut [u8], n: usize, level: u8, occupied: u8, slots: [Slot;
     }
 }
 
+#[tactic(auto, using(crate::proofs::Laid::header_laid))]
 pub fn put_header(map: &mut [u8], count: u16, root: u16, height: u8)
     requires { header_size ≤ length map.old }
     ensures { map.new ≡ put_header map.old count root height }
 {
-    put_u16(map, 0, count);
-    put_u16(map, 2, root);
-    put_u32(map, 4, height as u32);
+    count.put(map, 0);
+    root.put(map, 2);
+    u32::from(height).put(map, 4);
 }

@@ -3,18 +3,13 @@
 
 #![tactic(auto)]
 
+use mapfile::MAP_ROOM;
 use std::io;
 
 fn main(rt: HostRuntime) -> io::Result<()> {
-    let mut map = [0u8; 50185];
-    let n = mapfile::read_map(&rt, &mut map);
-    let verdict = rules::check(&map[..n]);
-    line(&rt, b"answer=", verdict.number() as u64)?;
-    line(&rt, b"node=", verdict.node() as u64)
-}
-
-fn line(out: &impl Print, key: &[u8], value: u64) -> io::Result<()> {
-    out.write_all(key)?;
-    out.print(value)?;
-    out.write_all(b"\n")
+    let mut room = [0u8; MAP_ROOM];
+    let length = mapfile::read_map(&rt, &mut room);
+    let verdict = rules::check(&room[..length]);
+    println!(rt; "answer={}", rules::number_of(verdict))?;
+    println!(rt; "node={}", rules::node_of(verdict))
 }

@@ -9,7 +9,8 @@ use lib.IntN.{ℤ, pos, negsuc, nat_abs, ◌-ℤ◌}
 use lib.Signed.{lt_z, le_z, ◌≤ℤ◌}
 use mir.Syntax.{w32}
 use mir.Val.{SFits}
-use Rattle.numbers.proofs.Tests.{both, chosen}
+use Rattle.std.proofs.lemmas.Bool.{and_parts}
+use Rattle.numbers.proofs.Tests.{chosen}
 use Rattle.numbers.proofs.Order.{test_le}
 use Rattle.numbers.proofs.Sizes.{difference_size, square_size}
 use Rattle.measure.specs.declared.Axis.{Axis}
@@ -22,7 +23,7 @@ InRange z = in_range z ≡ true
 pub in_range_size : (z : ℤ) → in_range z ≡ true → nat_abs z ≤ limit
 unfolding in_range
 in_range_size (pos n) e = leb-true n limit e
-in_range_size (negsuc n) e = omega (arith, leb-true n 999999 (both _ true e).0)
+in_range_size (negsuc n) e = omega (arith, leb-true n 999999 (and_parts _ true e).0)
 
 -- what a `Span` or an `Axis` by value holds fits its fields
 pub record Ends (s : Span) : Type 0 where
@@ -52,13 +53,13 @@ module _ (a b : ℤ) (h : in_range a ≡ true) (k : in_range b ≡ true) where
 module _ (s : Span) (h : span_in s ≡ true) where
   span_tests : (in_range s.low && in_range s.high ≡ true) × (le_z s.low s.high ≡ true)
   unfolding span_in
-  span_tests = both _ _ h
+  span_tests = and_parts _ _ h
 
   pub span_low : in_range s.low ≡ true
-  span_low = (both _ _ span_tests.0).0
+  span_low = (and_parts _ _ span_tests.0).0
 
   pub span_high : in_range s.high ≡ true
-  span_high = (both (in_range s.low) _ span_tests.0).1
+  span_high = (and_parts (in_range s.low) _ span_tests.0).1
 
   pub span_ordered : s.low ≤ℤ s.high
   span_ordered = test_le span_tests.1

@@ -8,14 +8,16 @@ use native.Mathlib.Omega.{arith}
 use native.Mathlib.Nat.{le_refl}
 use lib.Dec.{eqb}
 use lib.ListN.{length}
+use Rattle.std.specs.Prelude.{Result, Ok, Err}
 use lib.IntN.{ℤ}
 use lib.Signed.{≤ℤ_refl}
 use Rattle.numbers.proofs.Order.{≤ℤ-trans}
 use Rattle.numbers.proofs.Squares as squares
 use Rattle.measure.specs.declared.Axis.{Axis}
 use Rattle.measure.specs.declared.Mm.{Mm}
-use Rattle.measure.specs.declared.Measured.{Measured}
-use Rattle.measure.specs.declared.Measured.TheVariants.{Found, PointOutside, BoxOutside}
+use Rattle.measure.specs.declared.SquaredMm.{SquaredMm}
+use Rattle.measure.specs.declared.OutOfRange.{OutOfRange}
+use Rattle.measure.specs.declared.OutOfRange.TheVariants.{PointOutside, BoxOutside}
 use Rattle.measure.specs.Axis.{point_in, box_in, square_of, nearest_on, low_is_near, low_is_far, min_sq, near_sq, far_sq, Ready}
 use Rattle.measure.specs.Axes.{every, Each, sum_over, face_sums, least, min_dist, min_max_dist}
 use Rattle.measure.specs.Answer.{Reading, reading_of, measured_by}
@@ -99,16 +101,16 @@ mindist_small (a ∷ axes) h = omega (arith, min_small h.0, mindist_small axes h
 -- ---- any two answers that meet a contract coincide
 
 -- the answer with a given number and value
-answer_of : Reading → Measured
-answer_of r = cond (eqb r.number 0) (Found (record { 0 = r.value })) (cond (eqb r.number 1) PointOutside BoxOutside)
+answer_of : Reading → Result SquaredMm OutOfRange
+answer_of r = cond (eqb r.number 0) (Ok (record { 0 = r.value })) (cond (eqb r.number 1) (Err PointOutside) (Err BoxOutside))
 
-answer_back : (m : Measured) → answer_of (reading_of m) ≡ m
+answer_back : (m : Result SquaredMm OutOfRange) → answer_of (reading_of m) ≡ m
 unfolding answer_of
-answer_back (Found d) = refl
-answer_back PointOutside = refl
-answer_back BoxOutside = refl
+answer_back (Ok d) = refl
+answer_back (Err PointOutside) = refl
+answer_back (Err BoxOutside) = refl
 
-pub answer_unique : (m n : Measured) → reading_of m ≡ reading_of n → m ≡ n
+pub answer_unique : (m n : Result SquaredMm OutOfRange) → reading_of m ≡ reading_of n → m ≡ n
 answer_unique m n h = sym (answer_back m) ∙ ap answer_of h ∙ answer_back n
 
 pub root_unique : (d : ℕ) (r s : Mm) → RootOf d r.0 → RootOf d s.0 → r ≡ s

@@ -1,15 +1,14 @@
 -- What a measure answers: document 01's number and value, and which axes a point and a box have.
-use Rattle.std.specs.Prelude.{Bool, cond, List, [], ◌∷◌, ℕ, ℤ}
+use Rattle.std.specs.Prelude.{Bool, cond, List, [], ◌∷◌, ℕ, ℤ, Result, Ok, Err}
 use Rattle.measure.specs.declared.Axis.{Axis}
 use Rattle.measure.specs.declared.Span.{Span}
 use Rattle.measure.specs.declared.Point.{Point}
 use Rattle.measure.specs.declared.Bounds.{Bounds}
-use Rattle.measure.specs.declared.Measured.{Measured}
-use Rattle.measure.specs.declared.Measured.TheVariants.{Found, PointOutside, BoxOutside}
-use Rattle.measure.specs.declared.all_axes.Kind.{Kind}
-use Rattle.measure.specs.declared.all_axes.Kind.TheVariants.{Min, MinMax}
+use Rattle.measure.specs.declared.SquaredMm.{SquaredMm}
+use Rattle.measure.specs.declared.OutOfRange.{OutOfRange}
+use Rattle.measure.specs.declared.OutOfRange.TheVariants.{PointOutside, BoxOutside}
 use Rattle.measure.specs.Axis.{in_range, point_in, box_in}
-use Rattle.measure.specs.Axes.{every, min_dist, min_max_dist}
+use Rattle.measure.specs.Axes.{every}
 
 -- a point's coordinates, and a box's spans, axis by axis
 abbrev pub coordinates : Point → List ℤ
@@ -39,16 +38,16 @@ pub record Reading : Type 0 where
 abbrev pub reading : ℕ → ℕ → Reading
 reading n v = record { number = n; value = v }
 
+-- the number of a refusal
+abbrev pub refusal_number : OutOfRange → ℕ
+refusal_number PointOutside = 1
+refusal_number BoxOutside = 2
+
 -- the number and the value of each case
-abbrev pub reading_of : Measured → Reading
-reading_of (Found d) = reading 0 d.0
-reading_of PointOutside = reading 1 0
-reading_of BoxOutside = reading 2 0
+abbrev pub reading_of : Result SquaredMm OutOfRange → Reading
+reading_of (Ok d) = reading 0 d.0
+reading_of (Err e) = reading (refusal_number e) 0
 
 -- 1: the point is out of range on some axis; after that 2: the box is out of range, or low > high; else the measure
 unfoldable pub measured_by : (List Axis → ℕ) → List Axis → Reading
 measured_by f axes = cond (every point_in axes) (cond (every box_in axes) (reading 0 (f axes)) (reading 2 0)) (reading 1 0)
-
-abbrev pub measure_of : Kind → List Axis → ℕ
-measure_of Min axes = min_dist axes
-measure_of MinMax axes = min_max_dist axes

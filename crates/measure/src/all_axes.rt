@@ -1,64 +1,59 @@
 // All axes together: the refusals in their order, and the two measures as sums over the axes.
-ghost use Rattle.std.specs.Prelude.{◌≡◌, List, [], ◌∷◌, ◌+◌, ◌^◌, ◌<◌, min};
+ghost use Rattle.std.specs.Prelude.{◌≡◌, Err, List, map, ℕ, IfOk, IfErr};
+ghost use Rattle.measure.specs.declared.Axis.{Axis};
 ghost use Rattle.measure.specs.Axis.{Ready};
 ghost use Rattle.measure.specs.Axes.{Each, min_dist, min_max_dist};
-ghost use Rattle.measure.specs.Answer.{measured_by, measure_of, reading_of};
+ghost use Rattle.measure.specs.Answer.{axes_of, measured_by, reading_of};
 
-use crate::{Axis, Measured, SquaredMm};
+use crate::one_axis::ReadyAxis;
+use crate::{Axis, Bounds, OutOfRange, Point, SquaredMm};
 
-// Which measure is asked for.
-#[derive(Clone, Copy)]
-pub enum Kind {
-    Min,
-    MinMax,
-}
-
-impl SquaredMm {
-    fn plus(self, other: SquaredMm) -> SquaredMm
-        requires { self.0 + other.0 < 2 ^ 64 }
-        ensures { result.0 ≡ self.0 + other.0 }
-    {
-        SquaredMm(self.0 + other.0)
-    }
-
-    fn smaller(self, other: SquaredMm) -> SquaredMm
-        ensures { result.0 ≡ min self.0 other.0 }
-    {
-        if self.0 < other.0 { self } else { other }
-    }
-}
-
-pub fn min_over(x: Axis, y: Axis) -> SquaredMm
-    requires { Each Ready (x ∷ y ∷ []) }
-    ensures { result.0 ≡ min_dist (x ∷ y ∷ []) }
+// Who makes the list of axes.
+pub fn axes_of(p: Point, b: Bounds) -> [Axis; 2]
+    ensures { result ≡ axes_of p b }
 {
-    x.min_squared().plus(y.min_squared())
+    [Axis { at: p.x, span: b.x }, Axis { at: p.y, span: b.y }]
+}
+
+// The same, where nothing refuses them.
+pub fn ready_axes(axes: [Axis; 2]) -> [ReadyAxis; 2]
+    requires { Each Ready axes }
+    ensures { map (λ r. r.axis) result ≡ axes }
+{
+    let [x, y] = axes;
+    [ReadyAxis { axis: x }, ReadyAxis { axis: y }]
+}
+
+#[tactic(auto, using(crate::proofs::Range::min_small), unfolding(crate::specs::Axes::min_dist))]
+pub fn min_over(axes: [ReadyAxis; 2]) -> SquaredMm
+    ensures { result.0 ≡ min_dist (map (λ r. r.axis) axes) }
+{
+    let [x, y] = axes;
+    x.min_squared() + y.min_squared()
 }
 
 // The near face on one axis and the far face on the other, each way; the smaller sum.
-fn min_max_over(x: Axis, y: Axis) -> SquaredMm
-    requires { Each Ready (x ∷ y ∷ []) }
-    ensures { result.0 ≡ min_max_dist (x ∷ y ∷ []) }
+#[tactic(auto, using(crate::proofs::Range::near_small, crate::proofs::Range::far_small), unfolding(crate::specs::Axes::min_max_dist))]
+pub fn min_max_over(axes: [ReadyAxis; 2]) -> SquaredMm
+    ensures { result.0 ≡ min_max_dist (map (λ r. r.axis) axes) }
 {
+    let [x, y] = axes;
     let on_x = x.faces();
     let on_y = y.faces();
-    on_x.near.plus(on_y.far).smaller(on_x.far.plus(on_y.near))
+    (on_x.near + on_y.far).min(on_x.far + on_y.near)
 }
 
 // The refusals before the measure: the point's on any axis, then the box's on any axis.
-pub fn judged(kind: Kind, x: Axis, y: Axis) -> Measured
-    ensures { reading_of result ≡ measured_by (measure_of kind) (x ∷ y ∷ []) }
+pub fn ready(p: Point, b: Bounds) -> Result<[ReadyAxis; 2], OutOfRange>
+    ensures ok { IfOk result (λ axes. map (λ r. r.axis) axes ≡ axes_of p b) }
+    ensures err { IfErr result (λ e. (f : List Axis → ℕ) → measured_by f (axes_of p b) ≡ reading_of (Err e)) }
 {
-    let point = x.point_in() & y.point_in();
-    let bounds = x.box_in() & y.box_in();
-    if !point {
-        return Measured::PointOutside;
+    let axes = axes_of(p, b);
+    if !axes.iter().all(|a| a.point_in()) {
+        return Err(OutOfRange::PointOutside);
     }
-    if !bounds {
-        return Measured::BoxOutside;
+    if !axes.iter().all(|a| a.box_in()) {
+        return Err(OutOfRange::BoxOutside);
     }
-    match kind {
-        Kind::Min => Measured::Found(min_over(x, y)),
-        Kind::MinMax => Measured::Found(min_max_over(x, y)),
-    }
+    Ok(ready_axes(axes))
 }

@@ -1,10 +1,17 @@
 // One axis at a time: its range, the place of the span nearest to the point, and the squares to it and to both faces.
-// The functions with a `requires` are for `all_axes`, which has made the tests; a caller outside goes by `mindist`.
-ghost use Rattle.std.specs.Prelude.{◌≡◌, cond, true};
+// `all_axes` makes the tests, and then has ready axes; a caller outside goes by `mindist`.
+ghost use Rattle.std.specs.Prelude.{◌≡◌, true};
 ghost use Rattle.measure.specs.Axis.{square_of, in_range, point_in, span_in, box_in, nearest_on, min_sq, near_sq, far_sq, Ready};
 ghost use Rattle.measure.specs.Answer.{point_ok};
 
 use crate::{Axis, Point, Span, SquaredMm};
+
+// An axis that nothing refuses.
+#[derive(Clone, Copy)]
+pub struct ReadyAxis {
+    pub axis: Axis,
+    ghost ready: { Ready axis },
+}
 
 // The squares from the point to the near face and to the far one.
 #[derive(Clone, Copy)]
@@ -18,13 +25,7 @@ pub struct Faces {
 fn in_range(z: i32) -> bool
     ensures { result ≡ in_range z }
 {
-    (-1000000 <= z) & (z <= 1000000)
-}
-
-fn either(first: bool, a: SquaredMm, b: SquaredMm) -> SquaredMm
-    ensures { result ≡ cond first a b }
-{
-    if first { a } else { b }
+    (-1_000_000..=1_000_000).contains(&z)
 }
 
 impl Point {
@@ -56,54 +57,48 @@ impl Axis {
     pub fn box_in(self) -> bool
         ensures { result ≡ box_in self }
     {
-        let span = self.span;
-        span.in_order()
+        self.span.in_order()
     }
+}
 
+impl ReadyAxis {
     // The place of the span that is nearest to the point.
     #[tactic(auto, unfolding(crate::specs::Axis::nearest_on))]
     fn nearest(self) -> i32
-        ensures { result ≡ nearest_on self }
+        ensures { result ≡ nearest_on self.axis }
     {
-        let at = self.at;
-        let low = self.span.low;
-        let high = self.span.high;
-        if at < low {
-            low
-        } else if high < at {
-            high
-        } else {
-            at
-        }
+        let Axis { at, span } = self.axis;
+        at.clamp(span.low, span.high)
     }
 
     // (p - place)², from the signed difference.
+    // Kept (4): document 01 asks for squares of signed values, and the cast is shown to lose nothing.
     fn square_to(self, place: i32) -> SquaredMm
-        requires { (in_range self.at ≡ true) × (in_range place ≡ true) }
-        ensures { result.0 ≡ square_of self.at place }
+        requires { in_range place ≡ true }
+        ensures { result.0 ≡ square_of self.axis.at place }
     {
-        let d = (self.at as i64) - (place as i64);
+        let d = i64::from(self.axis.at) - i64::from(place);
         SquaredMm((d * d) as u64)
     }
 
     pub fn min_squared(self) -> SquaredMm
-        requires { Ready self }
-        ensures { result.0 ≡ min_sq self }
+        ensures { result.0 ≡ min_sq self.axis }
     {
         self.square_to(self.nearest())
     }
 
     // Both faces by comparing twice the point with the sum of the ends: no half is taken.
     pub fn faces(self) -> Faces
-        requires { Ready self }
-        ensures { (result.near.0 ≡ near_sq self) × (result.far.0 ≡ far_sq self) }
+        ensures { (result.near.0 ≡ near_sq self.axis) × (result.far.0 ≡ far_sq self.axis) }
     {
-        let to_low = self.square_to(self.span.low);
-        let to_high = self.square_to(self.span.high);
-        let twice = 2 * (self.at as i64);
-        let ends = (self.span.low as i64) + (self.span.high as i64);
-        let near = either(twice <= ends, to_low, to_high);
-        let far = either(twice >= ends, to_low, to_high);
-        Faces { near, far }
+        let Axis { at, span } = self.axis;
+        let to_low = self.square_to(span.low);
+        let to_high = self.square_to(span.high);
+        let twice = 2 * i64::from(at);
+        let ends = i64::from(span.low) + i64::from(span.high);
+        Faces {
+            near: if twice <= ends { to_low } else { to_high },
+            far: if twice >= ends { to_low } else { to_high },
+        }
     }
 }

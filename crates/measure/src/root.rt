@@ -12,6 +12,7 @@ pub fn plain(d: SquaredMm) -> Mm
     let mut r: u64 = 0;
     let mut step: u64 = 2147483648;
     let mut halvings: u32 = 31;
+    // Kept (3): document 01 asks for a loop that breaks with r, so that neither a `for` nor `isqrt` takes its place.
     let root = loop {
         let next = r + step;
         if d / next < next {

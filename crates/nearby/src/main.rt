@@ -3,11 +3,12 @@
 
 #![tactic(auto)]
 
+use mapfile::MAP_ROOM;
 use printer::OUTPUT_ROOM;
 use std::io;
 
 fn main(rt: HostRuntime) -> io::Result<()> {
-    let mut map = [0u8; 50185];
+    let mut map = [0u8; MAP_ROOM];
     let n = mapfile::read_map(&rt, &mut map);
     // The longest question has 108 bytes: what comes after 128 does not show (`rest_unread`).
     let mut input = [0u8; 128];

@@ -6,7 +6,7 @@ use mathlib.Core.Path.{◌≡◌, ap, ◌∙◌}
 use mathlib.Core.Bool.{true}
 use mathlib.Core.List.Memᴰ
 use mathlib.Core.List.{List, Memᴰ}
-use Rattle.numbers.proofs.Tests.{both}
+use Rattle.std.proofs.lemmas.Bool.{and_parts}
 use Rattle.floor.specs.View.{View, filled, leaf, bay}
 use Rattle.rules.specs.declared.Rule.TheVariants.{Bays}
 use Rattle.rules.specs.Verdicts.{Keeps}
@@ -73,7 +73,7 @@ module _ (v : View) (keeps : Keeps v) (distance : ℕ → ℕ) where
   slot_far grows (suc l) j h f e k m =
       let s = slot_link v tree j l e f in
       let o = from_node v tree l (v.ref j) (link_leads v tree j h s) (fallen v tree j l h e s) k m in
-      grows j k h o.inside s (both (leaf v (k / 8)) (filled v k) o.is_bay).1 o.under
+      grows j k h o.inside s (and_parts (leaf v (k / 8)) (filled v k) o.is_bay).1 o.under
 
   module _ (q : Question) where
     pub keys_distinct : (slots : List ℕ) → Once slots → ((j : ℕ) → Memᴰ j slots → BaySlot v j) → Distinct (sooner v) (wanted_keys v distance q slots)

@@ -1,5 +1,7 @@
 -- The laws that the search leans on.
+pub mod Checked
 pub mod Measured
+pub mod Sought
 pub mod Keys
 pub mod Keyed
 pub mod Page

@@ -14,7 +14,7 @@ use Rattle.nearest.specs.declared.best.Best.{Best}
 use Rattle.nearest.specs.Asked.{wanted_by}
 use Rattle.nearest.specs.Best.{key_of, sooner, keys_of, worst_of, listing, Carried}
 use Rattle.nearest.specs.Searched.{Kept, wanted_keys, Searched}
-use Rattle.nearest.proofs.Offer.{Offered, bounded}
+use Rattle.nearest.proofs.Offer.{Offered, listed, bounded}
 
 module _ (v : View) (distance : ℕ → ℕ) (q : Question) where
   pub keys_nil : wanted_keys v distance q [] ≡ []
@@ -59,8 +59,13 @@ module _ (v : View) (distance : ℕ → ℕ) (q : Question) where
               ∙ ap (λ (l : List ℕ). keep_all (sooner v) q.k l (keys_of b)) (sym (keys_append es fs));
         }
 
--- a list that was searched where it lies, with the distance of its kth beside it
-pub kept_in_place : {v : View} {k : ℕ} {keys : List ℕ} (b : Best) {room : List ℕ} {len : ℕ} {worst : HowFar}
-    → Kept v k keys (listing k b.keys b.len) (listing k room len) → worst.0 ≡ worst_of k len (get_or room (k - 1) 0)
+-- a list that is searched where it lies: the distance of its kth is found again at the end
+pub searched_begun : (v : View) (distance : ℕ → ℕ) (q : Question) (b : Best) → Carried v q.k b
+    → Searched v distance q [] b (listing q.k b.keys b.len)
+searched_begun v distance q b c =
+    let none = searched_none v distance q b c in record { carried = listed v q.k b none.carried; is = none.is }
+
+pub kept_in_place : {v : View} {k : ℕ} {keys : List ℕ} {b : Best} {room : List ℕ} {len : ℕ} {worst : HowFar}
+    → Kept v k keys b (listing k room len) → worst.0 ≡ worst_of k len (get_or room (k - 1) 0)
     → Kept v k keys b (record { keys = room; len = len; worst = worst })
-kept_in_place b h e = record { carried = bounded h.carried e; is = h.is }
+kept_in_place h e = record { carried = bounded h.carried e; is = h.is }

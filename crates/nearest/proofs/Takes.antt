@@ -8,7 +8,7 @@ use mathlib.Core.List.{List}
 use lib.Dec.{ltb}
 use lib.ListN.{length, take, get_or}
 use borrow.Author.Tests.{ltb-true, ltb-false, lt-ltb, le-ltb}
-use Rattle.numbers.proofs.Tests.{both}
+use Rattle.std.proofs.lemmas.Bool.{and_parts}
 use Rattle.floor.specs.View.{View, filled}
 use Rattle.order.specs.Order.{place}
 use Rattle.order.proofs.Place.{by_test}
@@ -81,10 +81,10 @@ module _ (v : View) (distance : ℕ → ℕ) (q : Question) (node i : ℕ) (keys
       new = key_of distance j
 
       parts : (filled v j ≡ true) × ((wanted_by v distance q j && (ltb len q.k || sooner v new last)) ≡ true)
-      parts = both (filled v j) (wanted_by v distance q j && (ltb len q.k || sooner v new last)) h
+      parts = and_parts (filled v j) (wanted_by v distance q j && (ltb len q.k || sooner v new last)) h
 
       more : (wanted_by v distance q j ≡ true) × ((ltb len q.k || sooner v new last) ≡ true)
-      more = both (wanted_by v distance q j) (ltb len q.k || sooner v new last) parts.1
+      more = and_parts (wanted_by v distance q j) (ltb len q.k || sooner v new last) parts.1
 
       go : ((len < q.k) × (up ≡ len + 1)) ⊎ ((q.k ≤ len) × (up ≡ len)) → Searched v distance q (part_bays v 0 node i) b (listing q.k t up)
       go (inl g) =

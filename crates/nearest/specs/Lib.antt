@@ -6,3 +6,4 @@ pub mod Best
 pub mod Ground
 pub mod Searched
 pub mod Needed
+pub mod Sought

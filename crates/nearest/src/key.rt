@@ -1,15 +1,15 @@
 // A bay of a map as one number, its key: how far it is and its slot, and the order of two of them.
-ghost use Rattle.std.specs.Prelude.{◌≡◌};
-ghost use Rattle.floor.specs.View.{view_of};
-ghost use Rattle.nearest.specs.Shown.{distance_to};
+ghost use Rattle.std.specs.Prelude.{◌≡◌, true, ◌*◌, ◌<◌};
+ghost use Rattle.floor.specs.Seen.{seen};
+ghost use Rattle.floor.specs.View.{filled};
 ghost use Rattle.nearest.specs.Best.{key_of, slot_in, far_in, sooner};
-ghost use Rattle.nearest.specs.Needed.{SlotSeen, KeysSeen};
+ghost use Rattle.nearest.specs.Sought.{away};
 
-use crate::slots::how_far;
-use floor::ref_of;
-use measure::{HowFar, Point};
+use crate::Seek;
+use floor::FloorMap;
+use measure::HowFar;
 
-#[derive(Clone, Copy)]
+#[derive(Clone, Copy, PartialEq, Eq)]
 pub struct Key(pub u64);
 
 impl Key {
@@ -26,26 +26,31 @@ impl Key {
     }
 }
 
-// The key of the bay in a filled slot.
-pub fn key_at(map: &[u8], p: Point, j: usize) -> Key
-    requires { SlotSeen (view_of map.now) p j }
-    ensures { result.0 ≡ key_of (distance_to (view_of map.now) p) j }
-{
-    let number = 2048 * how_far(map, p, j).0 + j as u64;
-    Key(number)
+impl<'a> Seek<'a> {
+    // The key of the bay in a filled slot.
+    #[tactic(auto, using(crate::proofs::Sought::count_few, crate::proofs::Sought::small_there))]
+    pub fn key_at(&self, j: usize) -> Key
+        requires inside { j < 8 * (seen self.now.map).count }
+        requires there { filled (seen self.now.map) j ≡ true }
+        ensures { result.0 ≡ key_of (away self.now) j }
+    {
+        let number = 2048 * self.how_far(j).0 + j as u64;
+        Key(number)
+    }
 }
 
 // Whether the bay of one key comes strictly before that of another; the map is read only where they are as near.
-pub fn is_sooner(map: &[u8], a: Key, b: Key) -> bool
-    requires { KeysSeen (view_of map.now) a.0 b.0 }
-    ensures { result ≡ sooner (view_of map.now) a.0 b.0 }
+#[tactic(auto, using(crate::proofs::Keys::lower_is), unfolding(question::specs::Mark::before))]
+pub fn is_sooner(map: &FloorMap, a: Key, b: Key) -> bool
+    requires first { slot_in a.0 < 8 * (seen map.now).count }
+    requires second { slot_in b.0 < 8 * (seen map.now).count }
+    ensures { result ≡ sooner (seen map.now) a.0 b.0 }
 {
+    // Kept (4): `cmp` with `then_with` takes an eighth more instructions for a page of 100, and pairs would always read the map.
     let far = a.far();
     let other = b.far();
-    if far.0 == other.0 {
-        let bay = ref_of(map, a.slot());
-        let rival = ref_of(map, b.slot());
-        return bay < rival;
+    if far == other {
+        return map.reference(a.slot()) < map.reference(b.slot());
     }
-    far.0 < other.0
+    far < other
 }

@@ -8,7 +8,7 @@ use native.Mathlib.Omega.{arith}
 use lib.Dec.{ltb}
 use borrow.Author.Tests.{ltb-true, ltb-false}
 use Rattle.numbers.specs.Below.{all_below, one, count_below, first_fail}
-use Rattle.numbers.proofs.Tests.{both}
+use Rattle.std.proofs.lemmas.Bool.{and_parts}
 
 pub ordered : (a b : ℕ) → (a < b) ⊎ ((a ≡ b) ⊎ (b < a))
 ordered zero zero = inr (inl refl)
@@ -49,7 +49,7 @@ module _ (p : ℕ → Bool) where
   pub all_sound : (n : ℕ) → all_below p n ≡ true → (k : ℕ) → k < n → p k ≡ true
   all_sound zero e k h = absurd (omega arith)
   all_sound (suc n) e k h =
-      let b = both (all_below p n) (p n) e in
+      let b = and_parts (all_below p n) (p n) e in
       last (λ k. p k ≡ true) n k h (all_sound n b.0 k) b.1
 
   pub all_complete : (n : ℕ) → ((k : ℕ) → k < n → p k ≡ true) → all_below p n ≡ true

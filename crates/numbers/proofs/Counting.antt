@@ -6,7 +6,7 @@ use native.Mathlib.Omega.{arith}
 use lib.Dec.{eqb}
 use borrow.Author.Tests.{eqb-true, eq-eqb}
 use Rattle.numbers.specs.Below.{one, count_below}
-use Rattle.numbers.proofs.Tests.{both}
+use Rattle.std.proofs.lemmas.Bool.{and_parts}
 
 -- ---- a count in parts
 
@@ -69,7 +69,7 @@ module _ (f : ℕ → ℕ) (r : ℕ → Bool) (m : ℕ) where
   led_there n p led apart = by (r n) refl
     where
       here : (j : ℕ) → (p j && eqb (f j) n) ≡ true → (p j ≡ true) × (f j ≡ n)
-      here j e = let b = both (p j) (eqb (f j) n) e in (b.0, eqb-true (f j) n b.1)
+      here j e = let b = and_parts (p j) (eqb (f j) n) e in (b.0, eqb-true (f j) n b.1)
 
       by : (t : Bool) → r n ≡ t → count_below (λ j. p j && eqb (f j) n) m ≤ one t
       by true e =
@@ -90,7 +90,7 @@ module _ (f : ℕ → ℕ) (r : ℕ → Bool) (m : ℕ) where
     where
       other : (j : ℕ) → (p j && not (eqb (f j) n)) ≡ true → (p j ≡ true) × (f j ≡ n → ⊥)
       other j e =
-          let b = both (p j) (not (eqb (f j) n)) e in
+          let b = and_parts (p j) (not (eqb (f j) n)) e in
           (b.0, λ q. true≢false (sym b.1 ∙ ap not (eq-eqb (f j) n q)))
 
       lower : (j : ℕ) → j < m → (p j ≡ true) × (f j ≡ n → ⊥) → (f j < n) × (r (f j) ≡ true)

@@ -8,7 +8,8 @@ use lib.Dec.{eqb, leb, ltb}
 use borrow.Author.Tests.{eqb-true, leb-true, ltb-true, eq-eqb, le-leb, lt-ltb}
 use Rattle.numbers.specs.Below.{all_below}
 use Rattle.numbers.specs.Exactly.{Exactly}
-use Rattle.numbers.proofs.Tests.{both}
+use Rattle.std.proofs.Math.Bool.{or-true}
+use Rattle.std.proofs.lemmas.Bool.{and_parts, or_cases}
 use Rattle.numbers.proofs.Below.{all_sound, all_complete}
 
 pub flag_is : (t : Bool) → Exactly t (t ≡ true)
@@ -33,23 +34,15 @@ lt_is a b = record { sound = ltb-true a b; complete = lt-ltb a b }
 pub and_is : {s t : Bool} {P Q : Type 0} → Exactly s P → Exactly t Q → Exactly (s && t) (P × Q)
 and_is {s} {t} a b =
     record {
-      sound = λ e. let h = both s t e in (a.sound h.0, b.sound h.1);
+      sound = λ e. let h = and_parts s t e in (a.sound h.0, b.sound h.1);
       complete = λ h. rw (a.complete h.0, b.complete h.1);
     }
-
-or_cases : (s t : Bool) → (s || t) ≡ true → (s ≡ true) ⊎ (t ≡ true)
-or_cases true t e = inl refl
-or_cases false t e = inr e
-
-or_right : (s : Bool) → (s || true) ≡ true
-or_right true = refl
-or_right false = refl
 
 pub or_is : {s t : Bool} {P Q : Type 0} → Exactly s P → Exactly t Q → Exactly (s || t) (P ⊎ Q)
 or_is {s} {t} a b =
     record {
       sound = λ e. ⊎_elim (λ h. inl (a.sound h)) (λ h. inr (b.sound h)) (or_cases s t e);
-      complete = ⊎_elim (λ p. rw (a.complete p)) (λ q. rw (b.complete q) (or_right s));
+      complete = ⊎_elim (λ p. rw (a.complete p)) (λ q. rw (b.complete q) (or-true s));
     }
 
 -- the same test for a property in other words

@@ -6,6 +6,7 @@ pub mod Signed
 pub mod Squares
 pub mod Shifted
 pub mod Below
+pub mod Ranges
 pub mod Exactly
 pub mod Counting
 pub mod Bits

@@ -2,3 +2,4 @@
 pub mod Writing
 pub mod Theorems
 pub mod Lines
+pub mod Digits

@@ -1,20 +1,13 @@
--- A field fits the room that is kept for it; and lines one after another. Assumes nothing.
+-- Lines one after another. Assumes nothing.
 use mathlib.Core.Path.{◌≡◌, refl, sym, ap, ◌∙◌}
 use mathlib.Core.List.{List, [], ◌∷◌, ◌++◌, append_assoc, append-nil}
-use Prim.Native.Nat.{ℕ, ◌+◌, ◌*◌, ◌^◌, ◌<◌, ◌≤◌}
+use Prim.Native.Nat.{ℕ, ◌+◌, ◌*◌}
 use native.Mathlib.Numerals.{add-one}
-use native.Mathlib.Omega.{arith}
-use lib.ListN.{length, drop, length-append}
-use Rattle.decimal.specs.Decimal.{decimal}
-use Rattle.decimal.proofs.Laws.{decimal_short}
+use lib.ListN.{drop}
 use Rattle.record.specs.declared.Record.{Record}
 use Rattle.record.specs.Record.{record_size, record_in, records_in}
 use Rattle.record.proofs.Reading.{records_next}
-use Rattle.printer.specs.Printed.{field_of, record_line, record_lines}
-use Rattle.printer.specs.Wrote.{key_room, field_room}
-
-pub field_short : (key : List ℕ) (n : ℕ) → length key ≤ key_room → n < 2 ^ 64 → length (field_of key n) ≤ field_room
-field_short key n h f = omega (arith, length-append key (decimal n), decimal_short n f)
+use Rattle.printer.specs.Printed.{record_line, record_lines}
 
 lines_snoc : (rs : List Record) (r : Record) → record_lines (rs ++ (r ∷ [])) ≡ record_lines rs ++ record_line r
 unfolding record_lines

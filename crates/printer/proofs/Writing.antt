@@ -1,20 +1,18 @@
 -- One piece written after another is both written; and what is written leaves no choice. Assumes nothing.
 use mathlib.Core.Path.{◌≡◌, refl, sym, ap, ◌∙◌}
-use mathlib.Core.List.{List, [], ◌∷◌, ◌++◌, append_assoc}
-use Prim.Native.Nat.{ℕ, ◌+◌, ◌≤◌, ◌<◌}
+use mathlib.Core.List.{List, [], ◌++◌, append_assoc}
+use Prim.Native.Nat.{ℕ, ◌+◌, ◌≤◌}
 use native.Mathlib.Nat.{add-zero}
-use native.Mathlib.Numerals.{add-one}
 use native.Mathlib.Omega.{arith}
-use lib.ListN.{length, take, drop, set, get_or, length-append, length-drop, take-append-drop}
-use lib.Seq.{length-take-le, take_at, drop-drop, set_split, drop-append-add, take-suc}
+use lib.ListN.{length, take, drop, length-append, length-drop, take-append-drop}
+use lib.Seq.{length-take-le, take_at, drop-drop, drop-append-add}
+use Rattle.printer.specs.declared.output.Output.{Output}
 use Rattle.printer.specs.Wrote.{Wrote, WroteIn}
+use Rattle.printer.specs.Output.{HasRoom, Adds}
 
 pub wrote_none : (l : List ℕ) (at : ℕ) → at ≤ length l → Wrote l l [] at at
 wrote_none l at h =
     record { bytes = sym (take-append-drop at l); end = sym (add-zero at); room = h }
-
-pub wrote_byte : (l : List ℕ) (at b : ℕ) → at < length l → Wrote l (set l at b) (b ∷ []) at (at + 1)
-wrote_byte l at b h = record { bytes = set_split l at b h ∙ rw add-one; end = refl; room = omega arith }
 
 module _ {a b u : List ℕ} {at p : ℕ} (f : Wrote a b u at p) where
   long : length (take at a ++ u) ≡ p
@@ -43,20 +41,9 @@ module _ {a b u : List ℕ} {at p : ℕ} (f : Wrote a b u at p) where
       room = omega (arith, same_long, g.room);
     }
 
--- one byte more of a list that is copied
-pub wrote_next : (a b s : List ℕ) (at j : ℕ) → j < length s → at + j < length a → length b ≡ length a → Wrote a b (take j s) at (at + j)
-    → Wrote a (set b (at + j) (get_or s j 0)) (take (j + 1) s) at (at + (j + 1))
-wrote_next a b s at j h k e w =
-    let more = wrote_more w (wrote_byte b (at + j) (get_or s j 0) (omega arith)) in
-    let z : at + (j + 1) ≡ at + j + 1 = omega arith in
-    rw (z, add-one j, take-suc s j 0 h) more
-
 -- the same where each piece stays in its room
 pub wrote_in_more : {m n : ℕ} {a b c u v : List ℕ} {at p r : ℕ} → WroteIn m a b u at p → WroteIn n b c v p r → WroteIn (m + n) a c (u ++ v) at r
 wrote_in_more f g = record { wrote = wrote_more f.wrote g.wrote; short = omega (arith, f.short, g.short) }
-
-pub byte_in : {a b : List ℕ} {byte at r : ℕ} → Wrote a b (byte ∷ []) at r → WroteIn 1 a b (byte ∷ []) at r
-byte_in f = record { wrote = f; short = omega (arith, f.end) }
 
 -- what stays in its room stays in a larger one
 pub wrote_wider : {m n : ℕ} {a b w : List ℕ} {at r : ℕ} → m ≤ n → WroteIn m a b w at r → WroteIn n a b w at r
@@ -67,3 +54,17 @@ pub wrote_unique : {before w a b : List ℕ} {at r s : ℕ} → Wrote before a w
 wrote_unique {r = r} {s = s} f g =
     let ends : r ≡ s = f.end ∙ sym g.end in
     (ends, f.bytes ∙ rw ends (sym g.bytes))
+
+-- the same of outputs
+pub adds_none : (o : Output) → HasRoom 0 o → Adds 0 o o []
+adds_none o h = record { buffer = refl; wrote = record { wrote = wrote_none o.room.now o.end (omega arith); short = omega arith } }
+
+pub adds_more : {m n : ℕ} {a b c : Output} {u v : List ℕ} → Adds m a b u → Adds n b c v → Adds (m + n) a c (u ++ v)
+adds_more f g = record { buffer = g.buffer ∙ f.buffer; wrote = wrote_in_more f.wrote g.wrote }
+
+pub adds_wider : {m n : ℕ} {a b : Output} {u : List ℕ} → m ≤ n → Adds m a b u → Adds n a b u
+adds_wider h f = record { buffer = f.buffer; wrote = wrote_wider h f.wrote }
+
+-- what is left of the room for both
+pub room_left : {m : ℕ} {a b : Output} {u : List ℕ} (n : ℕ) → Adds m a b u → HasRoom (m + n) a → HasRoom n b
+room_left n f h = omega (arith, h, same_long f.wrote.wrote, f.wrote.short)

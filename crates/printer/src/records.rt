@@ -1,46 +1,43 @@
 // The lines of the bays found.
-ghost use Rattle.std.specs.Prelude.{◌+◌, ◌*◌, ◌≤◌, length};
+ghost use Rattle.std.specs.Prelude.{◌*◌, ◌≤◌, length};
 ghost use Rattle.record.specs.Record.{record_size, records_in};
 ghost use Rattle.printer.specs.Printed.{far_fields, record_line, record_lines};
-ghost use Rattle.printer.specs.Wrote.{Wrote, WroteIn, far_room, line_room};
+ghost use Rattle.printer.specs.Wrote.{far_room, line_room};
+ghost use Rattle.printer.specs.Output.{HasRoom, Adds};
 
-use crate::put::{put_byte, put_field};
-use measure::{HowFar, plain};
+use crate::output::Output;
+use measure::{HowFar, SquaredMm, plain};
 use record::{Record, record_at};
 
-// A squared distance, and its plain distance.
-fn put_far(out: &mut [u8], at: usize, far: HowFar) -> usize
-    requires { at + far_room ≤ length out.old }
-    ensures { WroteIn far_room out.old out.new (far_fields far) at result }
-{
-    let dsq = far.squared();
-    let mm = plain(dsq);
-    let end = put_field(out, at, b" dsq=", dsq.0);
-    put_field(out, end, b" mm=", mm.0)
-}
-
-// A line goes field by field, each where the one before it ends.
-fn put_record_line(out: &mut [u8], at: usize, r: Record) -> usize
-    requires { at + line_room ≤ length out.old }
-    ensures { WroteIn line_room out.old out.new (record_line r) at result }
-{
-    let end = put_field(out, at, b"bay=", r.bay as u64);
-    let end = put_field(out, end, b" zone=", r.zone as u64);
-    let end = put_far(out, end, r.far);
-    put_byte(out, end, b'\n')
-}
-
-// The lines of the first n records of a room.
-pub fn put_record_lines(out: &mut [u8], at: usize, room: &[u8], n: usize) -> usize
-    requires { (record_size * n ≤ length room.now) × (at + line_room * n ≤ length out.old) }
-    ensures { Wrote out.old out.new (record_lines (records_in n room.now)) at result }
-{
-    let mut line = at;
-    let mut i = 0;
-    while i < n {
-        let r = record_at(room, i);
-        line = put_record_line(out, line, r);
-        i += 1;
+impl Output<'_> {
+    // A squared distance, and its plain distance.
+    fn far(&mut self, far: HowFar)
+        requires { HasRoom far_room self.old }
+        ensures { Adds far_room self.old self.new (far_fields far) }
+    {
+        let dsq = SquaredMm::from(far);
+        let mm = plain(dsq);
+        self.field(b" dsq=", dsq.0);
+        self.field(b" mm=", mm.0);
     }
-    line
+
+    fn record_line(&mut self, r: Record)
+        requires { HasRoom line_room self.old }
+        ensures { Adds line_room self.old self.new (record_line r) }
+    {
+        self.field(b"bay=", u64::from(r.bay));
+        self.field(b" zone=", u64::from(r.zone));
+        self.far(r.far);
+        self.bytes(b"\n");
+    }
+
+    // The lines of the first n records of a room.
+    pub fn record_lines(&mut self, room: &[u8], n: usize)
+        requires { (record_size * n ≤ length room.now) × HasRoom (line_room * n) self.old }
+        ensures { Adds (line_room * n) self.old self.new (record_lines (records_in n room.now)) }
+    {
+        for i in 0..n {
+            self.record_line(record_at(room, i));
+        }
+    }
 }

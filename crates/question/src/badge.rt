@@ -2,15 +2,16 @@
 ghost use Rattle.std.specs.Prelude.{◌≡◌};
 ghost use Rattle.question.specs.Badge.{on_badge, badge_ok};
 
-#[derive(Clone, Copy)]
+#[derive(Clone, Copy, PartialEq, Eq)]
 pub struct Badge(pub u32);
 
 impl Badge {
     // Every zone, for service.
-    pub const ALL: u32 = 4294967295;
+    pub const ALL: u32 = u32::MAX;
     // How many zones a badge that is not for service may have.
     pub const LIMIT: u32 = 8;
 
+    // Kept (4): document 01 asks for a constructor from bits, and not for a `From`.
     pub fn from_bits(bits: u32) -> Badge
         ensures { result.0 ≡ bits }
     {
@@ -33,7 +34,7 @@ impl Badge {
     pub fn accepted(self) -> bool
         ensures { result ≡ badge_ok self.0 }
     {
-        let zones = u32::count_ones(self.0);
-        ((1 <= zones) & (zones <= Badge::LIMIT)) | (self.0 == Badge::ALL)
+        let zones = self.0.count_ones();
+        (1..=Badge::LIMIT).contains(&zones) | (self.0 == Badge::ALL)
     }
 }

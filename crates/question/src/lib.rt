@@ -11,7 +11,7 @@ pub use badge::Badge;
 pub use mark::Mark;
 use measure::Point;
 
-#[derive(Clone, Copy)]
+#[derive(Clone, Copy, PartialEq, Eq)]
 pub struct Question {
     pub from: Point,
     pub k: usize,

@@ -4,7 +4,7 @@ use mathlib.Core.List.{List, [], ◌∷◌}
 use Prim.Native.Nat.{ℕ}
 use lib.IntN.{pos}
 use lib.ListN.{take}
-use Rattle.reader.specs.declared.Asked.TheVariants.{Read, Bad}
+use Rattle.std.proofs.Common.{Some, None}
 use Rattle.reader.specs.Scan.{scan, byte_of, digit_of, grow_of}
 use Rattle.reader.specs.Chain.{field_in}
 use Rattle.reader.specs.QuestionText.{question_in}
@@ -23,21 +23,21 @@ abbrev example : List ℕ
 example = 120 ∷ 61 ∷ 54 ∷ 10 ∷ behind
 
 pub example_read : question_in example
-    ≡ Read (record { from = record { x = pos 6; y = pos 2 }; k = 3; badge = record { 0 = 8 }; mark = record { far = record { 0 = 0 }; bay = 0 } })
+    ≡ Some (record { from = record { x = pos 6; y = pos 2 }; k = 3; badge = record { 0 = 8 }; mark = record { far = record { 0 = 0 }; bay = 0 } })
 unfolding question_in field_in scan byte_of digit_of grow_of
 example_read = refl
 
 -- x=-0
-pub minus_zero_bad : question_in (120 ∷ 61 ∷ 45 ∷ 48 ∷ 10 ∷ behind) ≡ Bad
+pub minus_zero_bad : question_in (120 ∷ 61 ∷ 45 ∷ 48 ∷ 10 ∷ behind) ≡ None
 unfolding question_in field_in scan byte_of digit_of grow_of
 minus_zero_bad = refl
 
 -- x=06
-pub leading_zero_bad : question_in (120 ∷ 61 ∷ 48 ∷ 54 ∷ 10 ∷ behind) ≡ Bad
+pub leading_zero_bad : question_in (120 ∷ 61 ∷ 48 ∷ 54 ∷ 10 ∷ behind) ≡ None
 unfolding question_in field_in scan byte_of digit_of grow_of
 leading_zero_bad = refl
 
 -- without its last newline
-pub newline_missing_bad : question_in (take 41 example) ≡ Bad
+pub newline_missing_bad : question_in (take 41 example) ≡ None
 unfolding question_in field_in scan byte_of digit_of grow_of
 newline_missing_bad = refl

@@ -1,5 +1,4 @@
 -- The laws of reading: of a number, a key, a field, a table of them, a question; what the reader as a whole keeps to; and examples.
-pub mod Scanning
 pub mod Numerals
 pub mod Keys
 pub mod Limited

@@ -3,15 +3,14 @@
 use mathlib.Core.Path.{◌≡◌, refl, sym, ap, subst, ◌∙◌}
 use mathlib.Core.List.{List, [], ◌∷◌}
 use mathlib.Core.Bool.{Bool, true, false, cond, ◌&&◌, false≢true}
-use Prim.Native.Nat.{ℕ, ◌≤◌, ◌<◌}
+use Prim.Native.Nat.{ℕ}
 use native.Mathlib.Omega.{arith}
 use lib.IntN.{ℤ, pos, negsuc}
-use lib.ListN.{length, drop}
-use lib.Seq.{drop-cons, drop-length}
+use lib.ListN.{length}
+use borrow.Author.Tests.{eqb-true}
+use Rattle.std.proofs.Common.{Some, None}
 use Rattle.question.specs.declared.Question.{Question}
-use Rattle.reader.specs.declared.Asked.TheVariants.{Read, Bad}
-use Rattle.reader.specs.declared.number.Number.{Number}
-use Rattle.reader.specs.Fields.{fields_then, AllInLimits}
+use Rattle.reader.specs.Fields.{Number, fields_then, AllInLimits}
 use Rattle.reader.specs.Scan.{Scan}
 use Rattle.reader.specs.Chain.{Chain, numbers_in, rest_of, all_numbers, is_nil}
 use Rattle.reader.specs.QuestionText.{u32_limits, u64_limits, question_fields, signed_number, question_numbers, question_text, Fitting, ReadAs, whole_of, question_of}
@@ -27,7 +26,7 @@ whole_same (negsuc n) = ap negsuc (omega arith)
 pub question_same : (q : Question) → question_of (question_numbers q) ≡ q
 question_same q = rw (whole_same q.from.x, whole_same q.from.y)
 
-pub numbers_same : (x y k badge far bay : Number) → AllInLimits question_fields (x ∷ y ∷ k ∷ badge ∷ far ∷ bay ∷ [])
+numbers_same : (x y k badge far bay : Number) → AllInLimits question_fields (x ∷ y ∷ k ∷ badge ∷ far ∷ bay ∷ [])
     → question_numbers (question_of (x ∷ y ∷ k ∷ badge ∷ far ∷ bay ∷ [])) ≡ x ∷ y ∷ k ∷ badge ∷ far ∷ bay ∷ []
 numbers_same x y k badge far bay w =
     let after_y = w.1.1 in
@@ -45,7 +44,7 @@ numbers_same x y k badge far bay w =
 
 nil_is : (l : List ℕ) → is_nil l ≡ true → l ≡ []
 nil_is [] e = refl
-nil_is (b ∷ t) e = absurd (false≢true e)
+nil_is (b ∷ t) e = absurd (omega (arith, eqb-true (length (b ∷ t)) 0 e))
 
 module _ (text : List ℕ) where
   module _ (ss : List Scan) (h : Chain question_fields text ss) where
@@ -54,18 +53,18 @@ module _ (text : List ℕ) where
     unfolding question_text
     own_read q f e = chain_complete question_fields text ss (question_numbers q) [] h f e
 
-    pub wrong_bad : all_numbers (numbers_in ss) ≡ false → ReadAs text Bad
+    wrong_bad : all_numbers (numbers_in ss) ≡ false → ReadAs text None
     wrong_bad w q f e =
         false≢true (sym w ∙ ap all_numbers (own_read q f e).0 ∙ limits_numbers question_fields (question_numbers q) f)
 
-    pub more_bad : is_nil (rest_of text ss) ≡ false → ReadAs text Bad
+    more_bad : is_nil (rest_of text ss) ≡ false → ReadAs text None
     more_bad w q f e = false≢true (sym w ∙ ap is_nil (own_read q f e).1)
 
   module _ (a b c d e f : Scan) (h : Chain question_fields text (a ∷ b ∷ c ∷ d ∷ e ∷ f ∷ [])) where
     abbrev read : List Scan
     read = a ∷ b ∷ c ∷ d ∷ e ∷ f ∷ []
 
-    pub all_read : all_numbers (numbers_in read) ≡ true → is_nil f.rest ≡ true → ReadAs text (Read (question_of (numbers_in read)))
+    all_read : all_numbers (numbers_in read) ≡ true → is_nil f.rest ≡ true → ReadAs text (Some (question_of (numbers_in read)))
     unfolding question_text
     all_read w o =
         let p = chain_sound question_fields text read h w in
@@ -76,21 +75,10 @@ module _ (text : List ℕ) where
         )
 
     answer_by : (p o : Bool) → all_numbers (numbers_in read) ≡ p → is_nil f.rest ≡ o
-        → ReadAs text (cond (p && o) (Read (question_of (numbers_in read))) Bad)
+        → ReadAs text (cond (p && o) (Some (question_of (numbers_in read))) None)
     answer_by true true p o = all_read p o
     answer_by true false p o = more_bad read h o
     answer_by false o p n = wrong_bad read h p
 
-    pub answer_right : ReadAs text (cond (all_numbers (numbers_in read) && is_nil f.rest) (Read (question_of (numbers_in read))) Bad)
+    pub answer_right : ReadAs text (cond (all_numbers (numbers_in read) && is_nil f.rest) (Some (question_of (numbers_in read))) None)
     answer_right = answer_by (all_numbers (numbers_in read)) (is_nil f.rest) refl refl
-
--- ---- where the last line ends
-
-below : {m n : ℕ} → m ≤ n → (m ≡ n → ⊥) → m < n
-below {m} {n} h e = omega arith
-
-pub nil_short : (text : List ℕ) (n : ℕ) → n ≤ length text → (n ≡ length text → ⊥) → is_nil (drop n text) ≡ false
-nil_short text n h e = rw (drop-cons text n 0 (below h e))
-
-pub nil_all : (text : List ℕ) (n : ℕ) → n ≡ length text → is_nil (drop n text) ≡ true
-nil_all text n e = rw (e, drop-length text)

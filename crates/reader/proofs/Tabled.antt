@@ -4,19 +4,18 @@ use mathlib.Core.Path.{◌≡◌, refl, sym, ap, ◌∙◌}
 use mathlib.Core.List.{List, [], ◌∷◌}
 use mathlib.Core.Bool.{true, false≢true}
 use Prim.Native.Nat.{ℕ}
-use Rattle.numbers.proofs.Tests.{both}
-use Rattle.reader.specs.declared.number.Number.{Number}
-use Rattle.reader.specs.declared.number.Number.TheVariants.{Is, Wrong}
+use Rattle.std.proofs.Common.{Some, None}
+use Rattle.std.proofs.lemmas.Bool.{and_parts}
 use Rattle.reader.specs.declared.number.Limits.{Limits}
-use Rattle.reader.specs.Fields.{InLimits, Field, field_then, fields_then, AllInLimits}
+use Rattle.reader.specs.Fields.{Number, InLimits, Field, field_then, fields_then, AllInLimits}
 use Rattle.reader.specs.Scan.{Scan}
 use Rattle.reader.specs.Chain.{Taken, Chain, field_in, fields_in, numbers_in, rest_of, is_number, all_numbers}
 use Rattle.reader.proofs.OneField.{field_in_lem}
 
 taken_is : (f : Field) (text : List ℕ) (n : Number) (rest : List ℕ) → is_number n ≡ true → Taken f text n rest
     → (text ≡ field_then f n rest) × InLimits f.limits n
-taken_is f text (Is minus n) rest e t = t
-taken_is f text Wrong rest e t = absurd (false≢true e)
+taken_is f text (Some n) rest e t = t
+taken_is f text None rest e t = absurd (false≢true e)
 
 -- the fields with numbers in their limits are read as those numbers
 pub chain_complete : (fs : List Field) (t : List ℕ) (ss : List Scan) (ns : List Number) (rest : List ℕ)
@@ -38,7 +37,7 @@ chain_sound [] t [] c a = (refl, tt)
 chain_sound [] t (s ∷ ss) c a = absurd c
 chain_sound (f ∷ fs) t [] c a = absurd c
 chain_sound (f ∷ fs) t (s ∷ ss) c a =
-    let b = both (is_number s.number) (all_numbers (numbers_in ss)) a in
+    let b = and_parts (is_number s.number) (all_numbers (numbers_in ss)) a in
     let p = taken_is f t s.number s.rest b.0 c.0.sound in
     let q = chain_sound fs s.rest ss c.1 b.1 in
     (p.0 ∙ ap (field_then f s.number) q.0, (p.1, q.1))
@@ -58,8 +57,8 @@ fields_once fs ns ms r s f g e =
 
 -- what is in its limits is a number
 limits_number : (l : Limits) (n : Number) → InLimits l n → is_number n ≡ true
-limits_number l (Is minus n) w = refl
-limits_number l Wrong w = absurd w
+limits_number l (Some n) w = refl
+limits_number l None w = absurd w
 
 pub limits_numbers : (fs : List Field) (ns : List Number) → AllInLimits fs ns → all_numbers ns ≡ true
 limits_numbers [] [] w = refl

@@ -5,18 +5,15 @@ use mathlib.Core.List.{List, []}
 use Prim.Native.Nat.{ℕ, ◌+◌, ◌^◌, ◌≤◌, ◌<◌}
 use native.Mathlib.Nat.{lt_of_le_of_lt}
 use native.Mathlib.Omega.{arith}
-use mathlib.Core.Bool.{true, false}
+use mathlib.Core.Bool.{Bool, true, false}
 use lib.Dec.{lit<}
 use lib.ListN.{length, length-append}
+use Rattle.std.proofs.Common.{Option, Some, None}
 use Rattle.decimal.specs.Decimal.{decimal}
 use Rattle.decimal.proofs.Laws.{decimal_length}
 use Rattle.question.specs.declared.Question.{Question}
-use Rattle.reader.specs.declared.Asked.{Asked}
-use Rattle.reader.specs.declared.Asked.TheVariants.{Read, Bad}
-use Rattle.reader.specs.declared.number.Number.{Number}
-use Rattle.reader.specs.declared.number.Number.TheVariants.{Is, Wrong}
 use Rattle.reader.specs.declared.number.Limits.{Limits}
-use Rattle.reader.specs.Fields.{numeral, InLimits, Field, field_then}
+use Rattle.reader.specs.Fields.{Number, number, numeral, SizeIn, InLimits, Field, field_then}
 use Rattle.reader.specs.QuestionText.{i32_limits, u32_limits, u64_limits, question_fields, signed_number, plain_number, question_numbers, question_text, Fitting, ReadAs, size_of, question_of, question_in}
 use Rattle.reader.proofs.Tabled.{chain_in, fields_once}
 use Rattle.reader.proofs.Questions.{question_same, answer_right}
@@ -33,28 +30,34 @@ text_once p q f g e =
     sym (question_same p) ∙ ap question_of (fields_once question_fields (question_numbers p) (question_numbers q) [] [] f g e).0 ∙ question_same q
 
 -- a text has one reading, so that `ReadAs` says all of `question_in`
-pub reading_once : (t : List ℕ) (r s : Asked) → ReadAs t r → ReadAs t s → r ≡ s
-reading_once t (Read p) (Read q) f g = ap Read (text_once p q f.0 g.0 (sym f.1 ∙ g.1))
-reading_once t (Read p) Bad f g = absurd (g p f.0 f.1)
-reading_once t Bad (Read q) f g = absurd (f q g.0 g.1)
-reading_once t Bad Bad f g = refl
+pub reading_once : (t : List ℕ) (r s : Option Question) → ReadAs t r → ReadAs t s → r ≡ s
+reading_once t (Some p) (Some q) f g = ap Some (text_once p q f.0 g.0 (sym f.1 ∙ g.1))
+reading_once t (Some p) None f g = absurd (g p f.0 f.1)
+reading_once t None (Some q) f g = absurd (f q g.0 g.1)
+reading_once t None None f g = refl
 
 -- a question's own text is read as that question
-pub read_back : (q : Question) → Fitting q → question_in (question_text q) ≡ Read q
-read_back q f = reading_once (question_text q) (question_in (question_text q)) (Read q) (reading_right (question_text q)) (f, refl)
+pub read_back : (q : Question) → Fitting q → question_in (question_text q) ≡ Some q
+read_back q f = reading_once (question_text q) (question_in (question_text q)) (Some q) (reading_right (question_text q)) (f, refl)
 
 -- ---- how long a question's text is
 
 -- what is in its limits has no more digits than document 01 allows, so that no test counts them: ten, or twenty for u64
 pub digits_few : (k : ℕ) (l : Limits) (n : Number) → 0 < k → l.most < 10 ^ k → l.least < 10 ^ k → InLimits l n → length (decimal (size_of n)) ≤ k
-digits_few k l (Is true n) p m h w = decimal_length k n (lt_of_le_of_lt w.1 h) p
-digits_few k l (Is false n) p m h w = decimal_length k n (lt_of_le_of_lt w m) p
-digits_few k l Wrong p m h w = absurd w
+digits_few k l (Some n) p m h w = decimal_length k n.size (by n.minus n.size w) p
+  where
+    by : (minus : Bool) (s : ℕ) → SizeIn l minus s → s < 10 ^ k
+    by true s v = lt_of_le_of_lt v.1 h
+    by false s v = lt_of_le_of_lt v m
+digits_few k l None p m h w = absurd w
 
 numeral_short : (n : Number) → length (numeral n) ≤ length (decimal (size_of n)) + 1
-numeral_short (Is true n) = omega arith
-numeral_short (Is false n) = omega arith
-numeral_short Wrong = omega arith
+numeral_short (Some n) = by n.minus
+  where
+    by : (minus : Bool) → length (numeral (number minus n.size)) ≤ length (decimal n.size) + 1
+    by true = omega arith
+    by false = omega arith
+numeral_short None = omega arith
 
 field_length : (f : Field) (n : Number) (rest : List ℕ) → length (field_then f n rest) ≡ length f.key + length (numeral n) + 1 + length rest
 unfolding field_then
@@ -77,6 +80,6 @@ text_short q f =
     simp field_length (omega arith)
 
 -- so a longer text is none, and what comes after 108 bytes need not be read
-pub long_bad : (t : List ℕ) → 108 < length t → question_in t ≡ Bad
+pub long_bad : (t : List ℕ) → 108 < length t → question_in t ≡ None
 long_bad t h =
-    reading_once t (question_in t) Bad (reading_right t) (λ q f e. let s = text_short q f in let l = ap length e in omega arith)
+    reading_once t (question_in t) None (reading_right t) (λ q f e. let s = text_short q f in let l = ap length e in omega arith)

@@ -1,38 +1,26 @@
 -- For the proofs of the code: how a field is read, and the fields of a table one after another.
-use Rattle.std.specs.Prelude.{◌≡◌, List, [], ◌∷◌, Bool, true, false, cond, ◌&&◌, ℕ, ◌≤◌, eqb, length, drop}
-use Rattle.reader.specs.declared.number.Number.{Number}
-use Rattle.reader.specs.declared.number.Number.TheVariants.{Is, Wrong}
+use Rattle.std.specs.Prelude.{◌≡◌, List, [], ◌∷◌, Bool, true, false, cond, ◌&&◌, ℕ, eqb, length, take, drop, Some, None}
+use Rattle.std.specs.Cmp.Lexicographic.{pointwise}
 use Rattle.reader.specs.declared.number.State.TheVariants.{Empty}
-use Rattle.reader.specs.declared.number.Reading.{Reading}
-use Rattle.reader.specs.Fields.{InLimits, Field, field_then}
+use Rattle.reader.specs.Fields.{Number, InLimits, Field, field_then}
 use Rattle.reader.specs.Scan.{Scan, scan}
 
 abbrev pub starts_with : List ℕ → List ℕ → Bool
-starts_with [] t = true
-starts_with (k ∷ ks) [] = false
-starts_with (k ∷ ks) (b ∷ t) = eqb b k && starts_with ks t
+starts_with key t = pointwise eqb (take (length key) t) key
 
 -- a text that is the field with this number and the rest
 abbrev pub Taken : Field → List ℕ → Number → List ℕ → Type 0
-Taken f text Wrong rest = Unit
-Taken f text (Is minus n) rest = (text ≡ field_then f (Is minus n) rest) × InLimits f.limits (Is minus n)
+Taken f text None rest = Unit
+Taken f text (Some n) rest = (text ≡ field_then f (Some n) rest) × InLimits f.limits (Some n)
 
 -- a number and the rest, as read from the front of text: what was read stands there, and what stands there is read
 pub record FieldRead (f : Field) (text : List ℕ) (s : Scan) : Type 0 where
   pub sound : Taken f text s.number s.rest
   pub complete : (n : Number) (rest : List ℕ) → InLimits f.limits n → text ≡ field_then f n rest → (s.number ≡ n) × (s.rest ≡ rest)
 
-abbrev pub scan_of : List ℕ → Reading → Scan
-scan_of text r = record { number = r.number; rest = drop r.next text }
-
--- what the code hands back of the field at `at`
-pub record FieldAt (f : Field) (text : List ℕ) (at : ℕ) (r : Reading) : Type 0 where
-  pub next : r.next ≤ length text
-  pub field : FieldRead f (drop at text) (scan_of text r)
-
 unfoldable pub field_in : Field → List ℕ → Scan
 field_in f t =
-    cond (starts_with f.key t) (scan f.limits f.stop Empty (drop (length f.key) t)) (record { number = Wrong; rest = [] })
+    cond (starts_with f.key t) (scan f.limits f.stop Empty (drop (length f.key) t)) (record { number = None; rest = [] })
 
 -- fields read one after the other
 abbrev pub Chain : List Field → List ℕ → List Scan → Type 0
@@ -55,13 +43,12 @@ rest_of t [] = t
 rest_of t (s ∷ ss) = rest_of s.rest ss
 
 abbrev pub is_number : Number → Bool
-is_number (Is minus n) = true
-is_number Wrong = false
+is_number (Some n) = true
+is_number None = false
 
 abbrev pub all_numbers : List Number → Bool
 all_numbers [] = true
 all_numbers (n ∷ ns) = is_number n && all_numbers ns
 
 abbrev pub is_nil : List ℕ → Bool
-is_nil [] = true
-is_nil (b ∷ t) = false
+is_nil l = eqb (length l) 0

@@ -1,22 +1,32 @@
 -- A text made of fields: each is a key, a number in decimal, and the byte that ends it. Document 01, '`nearby`'.
-use Rattle.std.specs.Prelude.{List, [], ◌∷◌, ◌++◌, true, false, cond, ℕ, ◌≤◌, ◌<◌}
+use Rattle.std.specs.Prelude.{List, [], ◌∷◌, ◌++◌, Bool, true, false, cond, ℕ, ◌≤◌, ◌<◌, Option, Some, None}
 use Rattle.decimal.specs.Decimal.{decimal}
-use Rattle.reader.specs.declared.number.Number.{Number}
-use Rattle.reader.specs.declared.number.Number.TheVariants.{Is, Wrong}
+use Rattle.reader.specs.declared.number.Signed.{Signed}
 use Rattle.reader.specs.declared.number.Limits.{Limits}
 use Rattle.reader.specs.declared.number.Stop.{Stop}
 use Rattle.reader.specs.declared.number.Stop.TheVariants.{Newline, Space}
 
+-- what a field holds: a number, as whether it has a minus and its size, or nothing of use
+abbrev pub Number : Type 0
+Number = Option Signed
+
+abbrev pub number : Bool → ℕ → Number
+number minus n = Some (record { minus = minus; size = n })
+
 -- the only accepted text of a number; none for what is wrong
 abbrev pub numeral : Number → List ℕ
-numeral (Is minus n) = cond minus (45 ∷ decimal n) (decimal n)
-numeral Wrong = []
+numeral (Some n) = cond n.minus (45 ∷ decimal n.size) (decimal n.size)
+numeral None = []
 
--- a number from -least to most; minus zero is none
+-- a size behind a minus, or with none; minus zero is no number
+abbrev pub SizeIn : Limits → Bool → ℕ → Type 0
+SizeIn l true n = (0 < n) × (n ≤ l.least)
+SizeIn l false n = n ≤ l.most
+
+-- a number from -least to most
 abbrev pub InLimits : Limits → Number → Type 0
-InLimits l (Is true n) = (0 < n) × (n ≤ l.least)
-InLimits l (Is false n) = n ≤ l.most
-InLimits l Wrong = ⊥
+InLimits l (Some n) = SizeIn l n.minus n.size
+InLimits l None = ⊥
 
 -- what ends a field
 abbrev pub stop_byte : Stop → ℕ

@@ -1,14 +1,10 @@
 -- A question's own text, and what reading a text gives. Document 01, '`nearby`'. What a reader has to believe is the table
 -- of fields, `question_text` and `ReadAs`: `question_in` reads every text as `ReadAs` says, and no other reading does.
-use Rattle.std.specs.Prelude.{◌≡◌, List, [], ◌∷◌, true, false, cond, ◌&&◌, ℕ, suc, ◌-◌, ◌^◌, ℤ, pos, negsuc, get_or}
+use Rattle.std.specs.Prelude.{◌≡◌, List, [], ◌∷◌, true, false, cond, ◌&&◌, ℕ, suc, ◌-◌, ◌^◌, ℤ, pos, negsuc, get_or, Option, Some, None, Bool}
 use Rattle.question.specs.declared.Question.{Question}
-use Rattle.reader.specs.declared.Asked.{Asked}
-use Rattle.reader.specs.declared.Asked.TheVariants.{Read, Bad}
-use Rattle.reader.specs.declared.number.Number.{Number}
-use Rattle.reader.specs.declared.number.Number.TheVariants.{Is, Wrong}
 use Rattle.reader.specs.declared.number.Limits.{Limits}
 use Rattle.reader.specs.declared.number.Stop.TheVariants.{Newline}
-use Rattle.reader.specs.Fields.{Field, fields_then, AllInLimits}
+use Rattle.reader.specs.Fields.{Number, number, Field, fields_then, AllInLimits}
 use Rattle.reader.specs.Chain.{fields_in, numbers_in, rest_of, all_numbers, is_nil}
 
 -- the keys, in ASCII: x= y= k= badge= afterdsq= afterbay=
@@ -56,11 +52,11 @@ question_fields =
 
 -- a whole number, as its sign and size; and an unsigned one
 abbrev pub signed_number : ℤ → Number
-signed_number (pos n) = Is false n
-signed_number (negsuc n) = Is true (suc n)
+signed_number (pos n) = number false n
+signed_number (negsuc n) = number true (suc n)
 
 abbrev pub plain_number : ℕ → Number
-plain_number n = Is false n
+plain_number n = number false n
 
 -- the numbers of a question, in the order of its lines
 abbrev pub question_numbers : Question → List Number
@@ -82,31 +78,34 @@ abbrev pub Fitting : Question → Type 0
 Fitting q = AllInLimits question_fields (question_numbers q)
 
 -- a text is read as a question exactly when it is that question's own text, and is bad when it is the text of none
-abbrev pub ReadAs : List ℕ → Asked → Type 0
-ReadAs text (Read q) = Fitting q × (text ≡ question_text q)
-ReadAs text Bad = (q : Question) → Fitting q → text ≡ question_text q → ⊥
+abbrev pub ReadAs : List ℕ → Option Question → Type 0
+ReadAs text (Some q) = Fitting q × (text ≡ question_text q)
+ReadAs text None = (q : Question) → Fitting q → text ≡ question_text q → ⊥
 
 -- numbers as values of the question's types, and the question of six numbers
+abbrev pub whole : Bool → ℕ → ℤ
+whole true n = negsuc (n - 1)
+whole false n = pos n
+
 abbrev pub whole_of : Number → ℤ
-whole_of (Is true n) = negsuc (n - 1)
-whole_of (Is false n) = pos n
-whole_of Wrong = pos 0
+whole_of (Some n) = whole n.minus n.size
+whole_of None = pos 0
 
 abbrev pub size_of : Number → ℕ
-size_of (Is minus n) = n
-size_of Wrong = 0
+size_of (Some n) = n.size
+size_of None = 0
 
 abbrev pub question_of : List Number → Question
 question_of ns =
     record {
-      from = record { x = whole_of (get_or ns 0 Wrong); y = whole_of (get_or ns 1 Wrong) };
-      k = size_of (get_or ns 2 Wrong);
-      badge = record { 0 = size_of (get_or ns 3 Wrong) };
-      mark = record { far = record { 0 = size_of (get_or ns 4 Wrong) }; bay = size_of (get_or ns 5 Wrong) };
+      from = record { x = whole_of (get_or ns 0 None); y = whole_of (get_or ns 1 None) };
+      k = size_of (get_or ns 2 None);
+      badge = record { 0 = size_of (get_or ns 3 None) };
+      mark = record { far = record { 0 = size_of (get_or ns 4 None) }; bay = size_of (get_or ns 5 None) };
     }
 
 -- what reading a text gives: each field is read where the one before it ends, and nothing may come after the last
-unfoldable pub question_in : List ℕ → Asked
+unfoldable pub question_in : List ℕ → Option Question
 question_in t =
     let read = fields_in question_fields t in
-    cond (all_numbers (numbers_in read) && is_nil (rest_of t read)) (Read (question_of (numbers_in read))) Bad
+    cond (all_numbers (numbers_in read) && is_nil (rest_of t read)) (Some (question_of (numbers_in read))) None

@@ -11,55 +11,51 @@ ghost use Rattle.std.specs.Prelude.{◌≡◌};
 ghost use Rattle.reader.specs.QuestionText.{question_in};
 
 use fields::line;
+use measure::{HowFar, Point};
 use number::Limits;
-use question::Question;
-use values::{are_numbers, question_of};
+use question::{Badge, Mark, Question};
 
 // How large a number of each type may be, and how large behind a minus: an unsigned one has no minus.
 const I32: Limits = Limits {
-    most: 2147483647,
-    least: 2147483648,
+    most: i32::MAX as u64,
+    least: i32::MAX as u64 + 1,
 };
 
 const U32: Limits = Limits {
-    most: 4294967295,
+    most: u32::MAX as u64,
     least: 0,
 };
 
 const U64: Limits = Limits {
-    most: 18446744073709551615,
+    most: u64::MAX,
     least: 0,
 };
 
-#[derive(Clone, Copy)]
-pub enum Asked {
-    Read(Question),
-    Bad,
-}
-
-// The question that the whole text is, if it is one. A wrong line has an end, too, so all of them are always read.
-pub fn read_question(text: &[u8]) -> Asked
+// The question that the whole text is, if it is one.
+#[tactic(auto, using(crate::proofs::OneField::field_within), unfolding(crate::specs::QuestionText::question_in))]
+pub fn read_question(text: &[u8]) -> Option<Question>
     ensures { result ≡ question_in text.now }
 {
-    let x = line(text, 0, b"x=", I32);
-    let y = line(text, x.next, b"y=", I32);
-    let k = line(text, y.next, b"k=", U32);
-    let badge = line(text, k.next, b"badge=", U32);
-    let far = line(text, badge.next, b"afterdsq=", U64);
-    let bay = line(text, far.next, b"afterbay=", U32);
-    let end = bay.next;
-    let x = x.number;
-    let y = y.number;
-    let k = k.number;
-    let badge = badge.number;
-    let far = far.number;
-    let bay = bay.number;
-    if !are_numbers(x, y, k, badge, far, bay) {
-        return Asked::Bad;
+    let (x, rest) = line(text, b"x=", I32)?;
+    let (y, rest) = line(rest, b"y=", I32)?;
+    let (k, rest) = line(rest, b"k=", U32)?;
+    let (badge, rest) = line(rest, b"badge=", U32)?;
+    let (far, rest) = line(rest, b"afterdsq=", U64)?;
+    let (bay, rest) = line(rest, b"afterbay=", U32)?;
+    if !rest.is_empty() {
+        return None;
     }
-    let size = text.len();
-    if end != size {
-        return Asked::Bad;
-    }
-    Asked::Read(question_of(x, y, k, badge, far, bay))
+    Some(Question {
+        from: Point {
+            x: x.whole(),
+            y: y.whole(),
+        },
+        // Kept (4): its limits say that it fits, and `try_from` would test that once more.
+        k: k.size as usize,
+        badge: Badge::from_bits(badge.small()),
+        mark: Mark {
+            far: HowFar(far.size),
+            bay: bay.small(),
+        },
+    })
 }

@@ -1,13 +1,13 @@
 -- How long a record is, that no record is all zero bytes, that records with equal bytes are one, and that the stores of the
 -- code are the bytes. Assumes nothing.
 use mathlib.Core.Path.{◌≡◌, refl, ap}
-use mathlib.Core.List.{List, [], ◌∷◌}
-use Prim.Native.Nat.{ℕ, ◌+◌, ◌/◌, ◌%◌, ◌^◌, ◌<◌}
+use mathlib.Core.List.{List}
+use Prim.Native.Nat.{ℕ, ◌+◌, ◌^◌, ◌<◌}
 use native.Mathlib.Omega.{arith}
 use lib.ListN.{length, replicate, get_or, take, drop, length-append}
 use lib.Seq.{sets}
 use Rattle.words.specs.Words.{le_bytes}
-use Rattle.words.proofs.Stores.{sets_append, length_bytes, bytes_back}
+use Rattle.words.proofs.Stores.{sets_append, length_bytes, byte_alone, bytes_back}
 use Rattle.record.specs.declared.Record.{Record}
 use Rattle.record.specs.Record.{record_size, record_bytes, no_record}
 
@@ -34,19 +34,9 @@ record_back r s small also same =
     let far = bytes_back 8 r.far.0 s.far.0 small.far also.far (ap (drop 8) same) in
     λ i. record { bay = bay i; zone = zone i; far = record { 0 = far i } }
 
--- a byte as a word: the zone and the three zero bytes after it
-zone_word : (z : ℕ) → z < 256 → le_bytes 4 z ≡ z ∷ 0 ∷ 0 ∷ 0 ∷ []
-unfolding le_bytes
-zone_word z h =
-    let a : z % 256 ≡ z = omega arith in
-    let b : z / 256 % 256 ≡ 0 = omega arith in
-    let c : z / 256 / 256 % 256 ≡ 0 = omega arith in
-    let d : z / 256 / 256 / 256 % 256 ≡ 0 = omega arith in
-    rw (a, b, c, d)
-
-pub record_laid : (l : List ℕ) (at : ℕ) (r : Record) → r.zone < 256
-    → sets (sets (sets l at (le_bytes 4 r.bay)) (at + 4) (le_bytes 4 r.zone)) (at + 8) (le_bytes 8 r.far.0) ≡ sets l at (record_bytes r)
+pub record_laid : (l : List ℕ) (at : ℕ) (r : Record) (zone : ℕ) → zone ≡ r.zone → r.zone < 256
+    → sets (sets (sets l at (le_bytes 4 r.bay)) (at + 4) (le_bytes 4 zone)) (at + 8) (le_bytes 8 r.far.0) ≡ sets l at (record_bytes r)
 unfolding record_bytes
-record_laid l at r h =
+record_laid l at r zone e h =
     let p₈ : at + 8 ≡ at + 4 + 4 = omega arith in
-    rw (zone_word r.zone h) (simp (sets_append, length-append, length_bytes, p₈))
+    rw (e, byte_alone 3 r.zone h) (simp (sets_append, length-append, length_bytes, p₈))

@@ -9,13 +9,13 @@ ghost use Rattle.std.proofs.lemmas.List.Edits.{sets};
 ghost use Rattle.record.specs.Record.{record_size, record_bytes, record_in};
 
 use measure::HowFar;
-use words::{put_u32, put_u64, u32_at, u64_at};
+use words::Word;
 
 // How many bytes a record has.
 pub const SIZE: usize = 16;
 
 // What is told of a bay: its number, its zone, and how far it is.
-#[derive(Clone, Copy)]
+#[derive(Clone, Copy, PartialEq, Eq, Default)]
 pub struct Record {
     pub bay: u32,
     pub zone: u8,
@@ -28,12 +28,10 @@ pub fn put_record(room: &mut [u8], i: usize, r: Record)
     ensures { room.new ≡ sets room.old (record_size * i) (record_bytes r) }
 {
     let at = SIZE * i;
-    let bay = r.bay;
-    let zone = r.zone as u32;
-    let far = r.far.0;
-    put_u32(room, at, bay);
-    put_u32(room, at + 4, zone);
-    put_u64(room, at + 8, far);
+    let zone = u32::from(r.zone);
+    r.bay.put(room, at);
+    zone.put(room, at + 4);
+    r.far.0.put(room, at + 8);
 }
 
 // Reads record i of a room.
@@ -42,8 +40,9 @@ pub fn record_at(room: &[u8], i: usize) -> Record
     ensures { result ≡ record_in (drop (record_size * i) room.now) }
 {
     let at = SIZE * i;
-    let bay = u32_at(room, at);
-    let zone = room[at + 4];
-    let far = HowFar(u64_at(room, at + 8));
-    Record { bay, zone, far }
+    Record {
+        bay: u32::read(room, at),
+        zone: room[at + 4],
+        far: HowFar(u64::read(room, at + 8)),
+    }
 }

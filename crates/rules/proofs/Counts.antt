@@ -1,52 +1,68 @@
--- The naming counts: one slot more adds one to the count of the node that it names, and nothing to any other; the slots
--- of a leaf add nothing.
+-- The naming counts: a slot that names a node adds one to the count of that node, and nothing to any other; a slot that
+-- names none adds nothing, and so do the slots of a leaf.
 -- Assumes nothing.
-use mathlib.Core.Path.{◌≡◌, refl, sym, ap, ◌∙◌}
-use mathlib.Core.Bool.{Bool, true, false, cond, ◌&&◌}
+use mathlib.Core.Path.{◌≡◌, refl, sym, ◌∙◌}
+use mathlib.Core.Bool.{true, false}
 use mathlib.Core.List.{List}
-use Prim.Native.Nat.{ℕ, ◌+◌, ◌*◌, ◌-◌, ◌/◌, ◌%◌, ◌<◌, ◌≤◌}
+use Prim.Native.Nat.{ℕ, ◌+◌, ◌*◌, ◌/◌, ◌<◌, ◌≤◌}
 use native.Mathlib.Omega.{arith}
 use native.Mathlib.Decide.{ℕ_discrete}
 use borrow.Author.Tests.{eq-eqb, ne_eqb}
-use lib.Dec.{eqb}
-use lib.ListN.{length, get_or, set}
+use lib.ListN.{length, get_or, set, replicate, length-set}
 use lib.Seq.{get_or-set_same, get_or-set_other}
+use Rattle.std.proofs.Math.ListN.{get_or-replicate}
 use Rattle.numbers.specs.Below.{one, count_below}
-use Rattle.numbers.proofs.Below.{count_more, count_skip}
+use Rattle.numbers.proofs.Below.{count_more, count_skip, count_most}
 use Rattle.floor.specs.View.{View, leaf, link}
 use Rattle.rules.specs.Links.{names}
 
--- from any slot of a leaf to the next node
-pub leaf_skip : (v : View) (t j : ℕ) → leaf v (j / 8) ≡ true → count_below (names v t) (8 * (j / 8) + 8) ≡ count_below (names v t) j
-leaf_skip v t j l =
-    let next : 8 * (j / 8) + 8 ≡ j + (8 - j % 8) = omega arith in
-    rw next (count_skip (names v t) j (8 - j % 8) none)
-  where
-    none : (i : ℕ) → i < 8 - j % 8 → names v t (j + i) ≡ false
-    none i h =
-        let home : (j + i) / 8 ≡ j / 8 = omega arith in
-        rw (home, l)
+-- the counts of the slots below j
+pub record CountedTo (v : View) (xs : List ℕ) (j : ℕ) : Type 0 where
+  pub long : length xs ≡ 256
+  pub each : (t : ℕ) → t < 256 → get_or xs t 0 ≡ count_below (names v t) j
 
-module _ (v : View) (j : ℕ) (few : v.count ≤ 256) (leads : link v j ≡ true → v.ref j < v.count) where
-  -- what slot j adds to the count of node t, found by the remainder
-  adds : (t : ℕ) → one (names v t j) ≡ cond (eqb (v.ref j % 256) t) (one (link v j)) 0
-  adds t = by (link v j) refl (ℕ_discrete (v.ref j % 256) t)
+pub none_counted : (v : View) → CountedTo v (replicate 256 0) 0
+none_counted v = record { long = refl; each = λ t h. get_or-replicate 256 t 0 0 h }
+
+module _ (v : View) (xs : List ℕ) where
+  pub counted_at : {j k : ℕ} → j ≡ k → CountedTo v xs j → CountedTo v xs k
+  counted_at e c = rw e at c
+
+  -- a count is at most the number of slots
+  pub counted_most : (j t : ℕ) → t < 256 → CountedTo v xs j → get_or xs t 0 ≤ j
+  counted_most j t h c = omega (arith, c.each t h, count_most (names v t) j)
+
+  pub leaf_passed : (n : ℕ) → leaf v n ≡ true → CountedTo v xs (8 * n) → CountedTo v xs (8 * (n + 1))
+  leaf_passed n l c = record { long = c.long; each = λ t h. c.each t h ∙ sym (skip t) }
     where
-      small : link v j ≡ true → v.ref j % 256 ≡ v.ref j
-      small l = omega (arith, leads l)
+      none : (t i : ℕ) → i < 8 → names v t (8 * n + i) ≡ false
+      none t i h =
+          let home : (8 * n + i) / 8 ≡ n = omega arith in
+          rw (home, l)
 
-      by : (l : Bool) → link v j ≡ l → Dec (v.ref j % 256 ≡ t) → one (l && eqb (v.ref j) t) ≡ cond (eqb (v.ref j % 256) t) (one l) 0
-      by true l (yes e) = rw (eq-eqb (v.ref j % 256) t e, eq-eqb (v.ref j) t (sym (small l) ∙ e))
-      by true l (no d) = rw (ne_eqb (v.ref j % 256) t d, ne_eqb (v.ref j) t (λ e. d (small l ∙ e)))
-      by false l (yes e) = rw (eq-eqb (v.ref j % 256) t e)
-      by false l (no d) = rw (ne_eqb (v.ref j % 256) t d)
+      skip : (t : ℕ) → count_below (names v t) (8 * (n + 1)) ≡ count_below (names v t) (8 * n)
+      skip t =
+          let next : 8 * (n + 1) ≡ 8 * n + 8 = omega arith in
+          rw next (count_skip (names v t) (8 * n) 8 (none t))
 
-  pub count_slot : (xs : List ℕ) → length xs ≡ 256 → ((t : ℕ) → t < 256 → get_or xs t 0 ≡ count_below (names v t) j) → (t : ℕ) → t < 256 → get_or (set xs (v.ref j % 256) (get_or xs (v.ref j % 256) 0 + one (link v j))) t 0 ≡ count_below (names v t) (j + 1)
-  count_slot xs n h t k = by (ℕ_discrete (v.ref j % 256) t)
+  pub unnamed_passed : (j : ℕ) → link v j ≡ false → CountedTo v xs j → CountedTo v xs (j + 1)
+  unnamed_passed j l c =
+      record {
+        long = c.long;
+        each = λ t h.
+            let none : one (names v t j) ≡ 0 = rw l in
+            rw (count_more (names v t) j) (omega (arith, c.each t h, none));
+      }
+
+  pub named_counted : (j : ℕ) → link v j ≡ true → v.ref j < 256 → CountedTo v xs j
+      → CountedTo v (set xs (v.ref j) (get_or xs (v.ref j) 0 + 1)) (j + 1)
+  named_counted j l few c = record { long = length-set xs _ _ ∙ c.long; each = λ t h. by t h (ℕ_discrete (v.ref j) t) }
     where
-      by : Dec (v.ref j % 256 ≡ t) → get_or (set xs (v.ref j % 256) (get_or xs (v.ref j % 256) 0 + one (link v j))) t 0 ≡ count_below (names v t) (j + 1)
-      by (yes e) =
-          rw e (rw (get_or-set_same xs t (get_or xs t 0 + one (link v j)) 0 (omega arith), count_more (names v t) j) (omega (arith, h t k, adds t, ap (λ (b : Bool). cond b (one (link v j)) 0) (eq-eqb (v.ref j % 256) t e))))
-      by (no d) =
-          rw (get_or-set_other xs (v.ref j % 256) t (get_or xs (v.ref j % 256) 0 + one (link v j)) 0 (λ e. d (sym e)), count_more (names v t) j)
-          (omega (arith, h t k, adds t, ap (λ (b : Bool). cond b (one (link v j)) 0) (ne_eqb (v.ref j % 256) t d)))
+      by : (t : ℕ) → t < 256 → Dec (v.ref j ≡ t) → get_or (set xs (v.ref j) (get_or xs (v.ref j) 0 + 1)) t 0 ≡ count_below (names v t) (j + 1)
+      by t h (yes e) =
+          let more : one (names v t j) ≡ 1 = rw (l, eq-eqb (v.ref j) t e) in
+          rw e (rw (get_or-set_same xs t (get_or xs t 0 + 1) 0 (omega (arith, c.long)), count_more (names v t) j) (omega (arith, c.each t h, more)))
+      by t h (no d) =
+          let none : one (names v t j) ≡ 0 = rw (l, ne_eqb (v.ref j) t d) in
+          rw (get_or-set_other xs (v.ref j) t (get_or xs (v.ref j) 0 + 1) 0 (λ e. d (sym e)), count_more (names v t) j)
+          (omega (arith, c.each t h, none))

@@ -7,15 +7,13 @@ use Prim.Native.Nat.{ℕ, zero, suc, ◌+◌, ◌*◌, ◌<◌}
 use native.Mathlib.Omega.{arith}
 use lib.IntN.{ℤ, pos, negsuc, neg_ℤ}
 use lib.Signed.{le_z}
-use Rattle.numbers.proofs.Tests.{both}
+use Rattle.std.proofs.lemmas.Bool.{and_parts}
 use Rattle.numbers.proofs.Order.{le_self, le_through, le_total}
 use Rattle.numbers.proofs.Below.{ordered}
 use Rattle.measure.specs.declared.Span.{Span}
 use Rattle.measure.specs.Axis.{limit, in_range, span_in}
 use Rattle.floor.specs.View.{View, filled}
-use Rattle.rules.specs.declared.boxes.Side.{Side}
-use Rattle.rules.specs.declared.boxes.Side.TheVariants.{Low, High}
-use Rattle.rules.specs.Boxes.{as_far, outer, end_of, around, no_span, hull}
+use Rattle.rules.specs.Boxes.{Side, Low, High, as_far, outer, end_of, around, no_span, hull}
 
 -- ---- how far out: reflexive, transitive and total
 
@@ -63,10 +61,10 @@ around_end High s t = refl
 
 end_in : (side : Side) (s : Span) → span_in s ≡ true → in_range (end_of side s) ≡ true
 unfolding span_in
-end_in side s e = by side (both (in_range s.low) (in_range s.high) ends)
+end_in side s e = by side (and_parts (in_range s.low) (in_range s.high) ends)
   where
     ends : (in_range s.low && in_range s.high) ≡ true
-    ends = (both (in_range s.low && in_range s.high) (le_z s.low s.high) e).0
+    ends = (and_parts (in_range s.low && in_range s.high) (le_z s.low s.high) e).0
 
     by : (side : Side) → (in_range s.low ≡ true) × (in_range s.high ≡ true) → in_range (end_of side s) ≡ true
     by Low h = h.0
@@ -75,7 +73,7 @@ end_in side s e = by side (both (in_range s.low) (in_range s.high) ends)
 -- a coordinate in range lies farther out than the end of no span at all
 none_inner : (side : Side) (z : ℤ) → in_range z ≡ true → as_far side (end_of side no_span) z ≡ true → ⊥
 unfolding in_range
-none_inner side z e h = by side (both (le_z (neg_ℤ (pos limit)) z) (le_z z (pos limit)) e) h
+none_inner side z e h = by side (and_parts (le_z (neg_ℤ (pos limit)) z) (le_z z (pos limit)) e) h
   where
     by : (side : Side) → (le_z (neg_ℤ (pos limit)) z ≡ true) × (le_z z (pos limit) ≡ true) → as_far side (end_of side no_span) z ≡ true → ⊥
     by Low r h = false≢true (le_through (pos 2147483647) z (pos limit) h r.1)

@@ -9,7 +9,8 @@ use lib.Seq.{take_all, length-take-le}
 use lib.Dec.{leb}
 use borrow.Author.Tests.{leb-true, leb-false}
 use Rattle.floor.specs.View.{view_of}
-use Rattle.rules.specs.declared.Verdict.TheVariants.{BadHeader}
+use Rattle.std.specs.Prelude.{Err}
+use Rattle.rules.specs.declared.Fault.TheVariants.{BadHeader}
 use Rattle.rules.specs.Header.{header_ok, HeaderRight}
 use Rattle.rules.specs.Verdicts.{verdict_of}
 use Rattle.rules.proofs.Exact.{header_exactly}
@@ -18,11 +19,11 @@ header_short : (m : List ℕ) → HeaderRight (view_of m) → length m ≤ 50184
 unfolding view_of
 header_short m h = omega (arith, h.size, h.few)
 
-pub long_broken : (m : List ℕ) → 50184 < length m → verdict_of m ≡ BadHeader
+pub long_broken : (m : List ℕ) → 50184 < length m → verdict_of m ≡ Err BadHeader
 unfolding verdict_of
 long_broken m l = by (header_ok (view_of m)) refl
   where
-    by : (t : Bool) → header_ok (view_of m) ≡ t → verdict_of m ≡ BadHeader
+    by : (t : Bool) → header_ok (view_of m) ≡ t → verdict_of m ≡ Err BadHeader
     by true e = absurd (omega (arith, header_short m ((header_exactly (view_of m)).sound e)))
     by false e = rw e
 

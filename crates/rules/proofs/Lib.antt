@@ -1,5 +1,6 @@
 -- The laws of the rules.
 pub mod Linked
+pub mod Spans
 pub mod Exact
 pub mod Verdicts
 pub mod Length

@@ -7,8 +7,11 @@ use Rattle.measure.specs.declared.Span.{Span}
 use Rattle.floor.specs.View.{View, filled, leaf, link, bounds_by, span_on}
 use Rattle.floor.specs.Layout.{axis_count}
 use Rattle.rules.specs.Spans.{same_span}
-use Rattle.rules.specs.declared.boxes.Side.{Side}
-use Rattle.rules.specs.declared.boxes.Side.TheVariants.{Low, High}
+
+-- the two ends of a span
+pub data Side : Type 0 where
+  Low : Side
+  High : Side
 
 -- a lies at least as far out on a side as b
 abbrev pub as_far : Side → ℤ → ℤ → Bool

@@ -8,6 +8,10 @@ use Rattle.floor.specs.View.{View, filled, leaf, link}
 abbrev pub names : View → ℕ → ℕ → Bool
 names v t j = link v j && eqb (v.ref j) t
 
+-- along every link there is a node
+abbrev pub Linked : View → Type 0
+Linked v = (j : ℕ) → j < 8 * v.count → link v j ≡ true → v.ref j < v.count
+
 -- how many slots name node t
 unfoldable pub named : View → ℕ → ℕ
 named v t = count_below (names v t) (8 * v.count)

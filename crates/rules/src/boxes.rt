@@ -1,59 +1,46 @@
 // Rule 15: a slot above the leaves carries the smallest box round the filled boxes of the node that it names.
-ghost use Rattle.std.specs.Prelude.{◌≡◌, true, cond, ◌*◌, ◌<◌};
-ghost use Rattle.floor.specs.View.{view_of, filled, Shaped};
-ghost use Rattle.rules.specs.Boxes.{outer, around, hull_of, grown_of, tight_ok};
+ghost use Rattle.std.specs.Prelude.{◌≡◌, false, ◌*◌, ◌/◌, ◌<◌};
+ghost use Rattle.floor.specs.Seen.{seen};
+ghost use Rattle.floor.specs.View.{leaf};
+ghost use Rattle.rules.specs.Boxes.{around, hull_of, grown_of, tight_ok, boxes_ok};
 
-use crate::spans::is_same;
+use crate::links::LinkedMap;
+use floor::FloorMap;
 use measure::{Bounds, Span};
-
-#[derive(Clone, Copy)]
-pub enum Side {
-    Low,
-    High,
-}
-
-// The outer one of two coordinates.
-#[tactic(auto, unfolding(crate::specs::Boxes::outer))]
-fn outer_of(side: Side, a: i32, b: i32) -> i32
-    ensures { result ≡ outer side a b }
-{
-    match side {
-        Side::Low => { if a <= b { a } else { b } }
-        Side::High => { if b <= a { a } else { b } }
-    }
-}
 
 // The smallest span round two.
 fn span_around(s: Span, t: Span) -> Span
     ensures { result ≡ around s t }
 {
-    let low = outer_of(Side::Low, s.low, t.low);
-    let high = outer_of(Side::High, s.high, t.high);
-    Span { low, high }
+    Span {
+        low: s.low.min(t.low),
+        high: s.high.max(t.high),
+    }
 }
 
 // A box, grown round slot j where that is filled.
-fn grown(map: &[u8], j: usize, hull: Bounds) -> Bounds
-    requires { Shaped (view_of map.now) × (j < 8 * (view_of map.now).count) }
-    ensures { result ≡ grown_of (view_of map.now) j hull }
+fn grown(map: &FloorMap, j: usize, hull: Bounds) -> Bounds
+    requires { j < 8 * (seen map.now).count }
+    ensures { result ≡ grown_of (seen map.now) j hull }
 {
-    if !floor::is_filled(map, j) {
+    if !map.is_filled(j) {
         return hull;
     }
-    let b = floor::bounds_of(map, j);
+    let b = map.bounds(j);
     let x = span_around(hull.x, b.x);
     let y = span_around(hull.y, b.y);
     Bounds { x, y }
 }
 
 // The smallest box round the filled slots of a node.
-fn hull_of(map: &[u8], n: usize) -> Bounds
-    requires { Shaped (view_of map.now) × (n < (view_of map.now).count) }
-    ensures { result ≡ hull_of (view_of map.now) n 8 }
+#[tactic(auto, unfolding(crate::specs::Boxes::hull))]
+fn hull_of(map: &FloorMap, n: usize) -> Bounds
+    requires { n < (seen map.now).count }
+    ensures { result ≡ hull_of (seen map.now) n 8 }
 {
     let none = Span {
-        low: 2147483647,
-        high: -2147483648,
+        low: i32::MAX,
+        high: i32::MIN,
     };
     let mut hull = Bounds { x: none, y: none };
     for i in 0..8 {
@@ -63,16 +50,25 @@ fn hull_of(map: &[u8], n: usize) -> Bounds
 }
 
 // A filled slot of a node above the leaves carries that box.
-#[tactic(auto, unfolding(crate::specs::Boxes::tight_ok))]
-pub fn tight_ok(map: &[u8], j: usize) -> bool
-    requires { Shaped (view_of map.now)
-        × ((j < 8 * (view_of map.now).count) × (filled (view_of map.now) j ≡ true → (view_of map.now).ref j < (view_of map.now).count)) }
-    ensures { result ≡ tight_ok (view_of map.now) j }
+#[tactic(auto, using(crate::proofs::Spans::same_eq), unfolding(crate::specs::Boxes::tight_ok, crate::specs::Spans::same_span))]
+fn tight_ok(map: &LinkedMap, j: usize) -> bool
+    requires { (j < 8 * (seen map.now.floor).count)
+        × (leaf (seen map.now.floor) (j / 8) ≡ false) }
+    ensures { result ≡ tight_ok (seen map.now.floor) j }
 {
-    if !floor::is_filled(map, j) {
+    let Some(child) = map.child(j) else {
         return true;
-    }
-    let b = floor::bounds_of(map, j);
-    let hull = hull_of(map, floor::ref_of(map, j) as usize);
-    is_same(b.x, hull.x) & is_same(b.y, hull.y)
+    };
+    let b = map.floor.bounds(j);
+    let hull = hull_of(&map.floor, child);
+    b == hull
+}
+
+// The rule, of node n.
+#[tactic(auto, unfolding(crate::specs::Boxes::boxes_ok))]
+pub fn boxes_ok(map: &LinkedMap, n: usize) -> bool
+    requires { n < (seen map.now.floor).count }
+    ensures { result ≡ boxes_ok (seen map.now.floor) n }
+{
+    map.floor.level(n) == 0 || (0..8).all(|i| tight_ok(map, 8 * n + i))
 }

@@ -1,16 +1,18 @@
 // Rule 13: how many slots of a node are filled.
 ghost use Rattle.std.specs.Prelude.{◌≡◌, ◌<◌};
-ghost use Rattle.floor.specs.View.{view_of, Shaped};
+ghost use Rattle.floor.specs.Seen.{seen};
 ghost use Rattle.rules.specs.Fill.{fill_ok};
 
+use floor::FloorMap;
+
 #[tactic(auto, unfolding(crate::specs::Fill::fill_ok))]
-pub fn fill_ok(map: &[u8], n: usize) -> bool
-    requires { Shaped (view_of map.now) × (n < (view_of map.now).count) }
-    ensures { result ≡ fill_ok (view_of map.now) n }
+pub fn fill_ok(map: &FloorMap, n: usize) -> bool
+    requires { n < (seen map.now).count }
+    ensures { result ≡ fill_ok (seen map.now) n }
 {
-    let node = floor::node_of(map, n);
-    let filled = u8::count_ones(node.occupied);
-    if n == floor::root_of(map) {
+    let node = map.node(n);
+    let filled = node.occupied.count_ones();
+    if n == map.root() {
         return (node.level == 0) | (2 <= filled);
     }
     3 <= filled

@@ -1,6 +1,6 @@
-// The map check: rules 11 to 16 of document 01, each tried over the whole map before the next. One file for each rule,
-// with its test of a node or of a slot; here are the one loop over the slots of a node, the one loop over nodes, and the
-// verdict. `check` is for anyone; the rest is for `check`, which knows that the rules before have been kept.
+// The map check: rules 11 to 16 of document 01, each tried over the whole map before the next. One file for each rule but
+// rule 16, which is `bays`', with its test of a node; here are the one loop over nodes, and the verdict. `check` is for anyone; the rest is for
+// `check`, which knows that the rules before have been kept.
 
 #![tactic(auto)]
 
@@ -9,180 +9,122 @@ mod fill;
 mod form;
 mod header;
 mod links;
-mod spans;
 
-ghost use Rattle.std.specs.Prelude.{◌≡◌, ◌||◌, ℕ, ◌+◌, ◌*◌, ◌<◌};
-ghost use Rattle.numbers.specs.Below.{all_below};
-ghost use Rattle.floor.specs.View.{view_of, leaf, Shaped};
-ghost use Rattle.rules.specs.Links.{named};
-ghost use Rattle.rules.specs.Verdicts.{rule_number, number_of, node_of, rule_ok, lowest_fault, verdict_of};
-ghost use Rattle.rules.specs.Leaning.{slot_rule, Leans, LeansAll, Counted};
+ghost use Rattle.std.specs.Prelude.{◌≡◌, ℕ, Bool, ◌<◌};
+ghost use Rattle.floor.specs.Seen.{seen};
+ghost use Rattle.bays.specs.Bays.{bays_ok};
+ghost use Rattle.rules.specs.Verdicts.{rule_number, fault_number, fault_node, number_of, node_of, rule_ok, tried_of, verdict_of};
 
-// A rule that is tried node by node.
-#[derive(Clone, Copy)]
+use floor::FloorMap;
+use links::LinkedMap;
+
+// A rule that is tried node by node; its number is document 01's.
+#[derive(Clone, Copy, PartialEq, Eq)]
 pub enum Rule {
-    Form,
-    Fill,
-    Links,
-    Boxes,
-    Bays,
+    Form = 12,
+    Fill = 13,
+    Links = 14,
+    Boxes = 15,
+    Bays = 16,
 }
 
-// The check's answer: `number_of` and `node_of` give document 01's numbers for each case.
-#[derive(Clone, Copy)]
-pub enum Verdict {
-    Accepted,
+// What is wrong with a map: its header, or a rule with the lowest node that breaks it.
+#[derive(Clone, Copy, PartialEq, Eq)]
+pub enum Fault {
     BadHeader,
     Broken(Rule, usize),
 }
 
-impl Rule {
-    pub fn number(self) -> u32
-        ensures { result ≡ rule_number self }
+impl From<Rule> for u32 {
+    ghost from_gives = { λ rule n. n ≡ rule_number rule };
+
+    fn from(rule: Rule) -> u32 {
+        rule as u32
+    }
+}
+
+impl From<Fault> for u32 {
+    ghost from_gives = { λ fault n. n ≡ fault_number fault };
+
+    fn from(fault: Fault) -> u32 {
+        match fault {
+            Fault::BadHeader => 11,
+            Fault::Broken(rule, _) => u32::from(rule),
+        }
+    }
+}
+
+impl Fault {
+    fn node(self) -> usize
+        ensures { result ≡ fault_node self }
     {
         match self {
-            Rule::Form => 12,
-            Rule::Fill => 13,
-            Rule::Links => 14,
-            Rule::Boxes => 15,
-            Rule::Bays => 16,
+            Fault::BadHeader => 0,
+            Fault::Broken(_, node) => node,
         }
     }
 }
 
-impl Verdict {
-    pub fn number(self) -> u32
-        ensures { result ≡ number_of self }
-    {
-        match self {
-            Verdict::Accepted => 0,
-            Verdict::BadHeader => 11,
-            Verdict::Broken(rule, _) => rule.number(),
+// Document 01's number of the check's answer.
+pub fn number_of(verdict: Result<(), Fault>) -> u32
+    ensures { result ≡ number_of verdict }
+{
+    verdict.map_or_else(u32::from, |()| 0)
+}
+
+// Document 01's node of the check's answer.
+pub fn node_of(verdict: Result<(), Fault>) -> usize
+    ensures { result ≡ node_of verdict }
+{
+    verdict.map_or_else(Fault::node, |()| 0)
+}
+
+// A rule over the whole map, by its test of a node: broken at the lowest node that fails.
+#[tactic(auto, using(crate::proofs::Verdicts::tried_stop, crate::proofs::Verdicts::tried_end))]
+fn tried<F: Fn(usize) -> bool>(map: &FloorMap, rule: Rule, holds: F) -> Result<(), Fault>
+    requires callable { (n : ℕ) → n < (seen map.now).count → F.pre holds n }
+    requires tests { (n : ℕ) (t : Bool) → n < (seen map.now).count
+        → F.post holds n t → t ≡ rule_ok rule (seen map.now) n }
+    ensures { result ≡ tried_of (seen map.now) rule }
+{
+    for n in 0..map.count() {
+        if !holds(n) {
+            return Err(Fault::Broken(rule, n));
         }
     }
-
-    pub fn node(self) -> usize
-        ensures { result ≡ node_of self }
-    {
-        match self {
-            Verdict::Accepted => 0,
-            Verdict::BadHeader => 0,
-            Verdict::Broken(_, node) => node,
-        }
-    }
+    Ok(())
 }
 
-// A rule's test of one slot.
-fn slot_holds(map: &[u8], rule: Rule, j: usize) -> bool
-    requires { Shaped (view_of map.now) × ((j < 8 * (view_of map.now).count) × Leans rule (view_of map.now) j) }
-    ensures { result ≡ slot_rule rule (view_of map.now) j }
+// Rule 16, of node n, by the definition.
+fn bays_ok(map: &FloorMap, n: usize) -> bool
+    requires { n < (seen map.now).count }
+    ensures { result ≡ bays_ok (seen map.now) n }
 {
-    match rule {
-        Rule::Form => form::slot_ok(map, j),
-        Rule::Fill => true,
-        Rule::Links => links::step_ok(map, j),
-        Rule::Boxes => boxes::tight_ok(map, j),
-        Rule::Bays => bays::is_lone(map, j),
-    }
+    (0..8).all(|i| bays::is_lone(map, 8 * n + i))
 }
 
-// A rule's test of every slot of a node.
-fn slots_hold(map: &[u8], rule: Rule, n: usize) -> bool
-    requires { Shaped (view_of map.now)
-        × ((n < (view_of map.now).count) × ((i : ℕ) → i < 8 → Leans rule (view_of map.now) (8 * n + i))) }
-    ensures { result ≡ all_below (λ i. slot_rule rule (view_of map.now) (8 * n + i)) 8 }
-{
-    let mut ok = true;
-    for i in 0..8 {
-        ok = ok & slot_holds(map, rule, 8 * n + i);
-    }
-    ok
-}
-
-// The same for a rule that asks nothing of a leaf's slots.
-fn above_leaves(map: &[u8], rule: Rule, n: usize) -> bool
-    requires { Shaped (view_of map.now) × ((n < (view_of map.now).count) × LeansAll rule (view_of map.now)) }
-    ensures { result ≡ (leaf (view_of map.now) n || all_below (λ i. slot_rule rule (view_of map.now) (8 * n + i)) 8) }
-{
-    if floor::level_of(map, n) == 0 {
-        return true;
-    }
-    slots_hold(map, rule, n)
-}
-
-// A rule's test of one node, which is named so many times.
-fn holds(map: &[u8], rule: Rule, times: u16, n: usize) -> bool
-    requires { Shaped (view_of map.now)
-        × ((n < (view_of map.now).count) × (LeansAll rule (view_of map.now) × (rule ≡ Rule.Links → times ≡ named (view_of map.now) n))) }
-    ensures { result ≡ rule_ok rule (view_of map.now) n }
-{
-    match rule {
-        Rule::Form => form::node_ok(map, n) & slots_hold(map, Rule::Form, n),
-        Rule::Fill => fill::fill_ok(map, n),
-        Rule::Links => links::named_ok(map, times, n) & above_leaves(map, Rule::Links, n),
-        Rule::Boxes => above_leaves(map, Rule::Boxes, n),
-        Rule::Bays => slots_hold(map, Rule::Bays, n),
-    }
-}
-
-// The lowest node at which a rule fails, or the node count.
-fn first_fault(map: &[u8], rule: Rule, counts: [u16; 256]) -> usize
-    requires { Shaped (view_of map.now)
-        × (LeansAll rule (view_of map.now) × (rule ≡ Rule.Links → Counted (view_of map.now) counts)) }
-    ensures { result ≡ lowest_fault rule (view_of map.now) }
-{
-    let count = floor::count_of(map);
-    let mut n = 0;
-    while n < count {
-        let times = counts[n];
-        if !holds(map, rule, times, n) {
-            return n;
-        }
-        n += 1;
-    }
-    n
-}
-
-// The same for rule 16, where a map with no bay number twice is seen to be so at once.
-fn first_twin(map: &[u8], counts: [u16; 256]) -> usize
-    requires { Shaped (view_of map.now) }
-    ensures { result ≡ lowest_fault Rule.Bays (view_of map.now) }
+// Rule 16, where a map with no bay number twice is seen to be so at once.
+#[tactic(auto, using(crate::proofs::Verdicts::kept_tried, bays::proofs::Exact::no_twins))]
+fn apart(map: &FloorMap) -> Result<(), Fault>
+    ensures { result ≡ tried_of (seen map.now) Rule.Bays }
 {
     if bays::distinct(map) {
-        return floor::count_of(map);
+        return Ok(());
     }
-    first_fault(map, Rule::Bays, counts)
+    tried(map, Rule::Bays, |n| bays_ok(map, n))
 }
 
 // The map check.
-pub fn check(map: &[u8]) -> Verdict
-    ensures { result ≡ verdict_of map.now }
+#[tactic(auto, using(crate::proofs::Verdicts::in_turn, crate::proofs::Verdicts::tried_links), unfolding(crate::specs::Verdicts::verdict_of))]
+pub fn check(bytes: &[u8]) -> Result<(), Fault>
+    ensures { result ≡ verdict_of bytes.now }
 {
-    if !header::header_ok(map) {
-        return Verdict::BadHeader;
-    }
-    let count = floor::count_of(map);
-    let none = [0u16; 256];
-    let form = first_fault(map, Rule::Form, none);
-    if form < count {
-        return Verdict::Broken(Rule::Form, form);
-    }
-    let fill = first_fault(map, Rule::Fill, none);
-    if fill < count {
-        return Verdict::Broken(Rule::Fill, fill);
-    }
-    let counts = links::naming_counts(map);
-    let link = first_fault(map, Rule::Links, counts);
-    if link < count {
-        return Verdict::Broken(Rule::Links, link);
-    }
-    let loose = first_fault(map, Rule::Boxes, counts);
-    if loose < count {
-        return Verdict::Broken(Rule::Boxes, loose);
-    }
-    let twin = first_twin(map, counts);
-    if twin < count {
-        return Verdict::Broken(Rule::Bays, twin);
-    }
-    Verdict::Accepted
+    let map = header::read(bytes)?;
+    tried(&map, Rule::Form, |n| form::form_ok(&map, n))?;
+    tried(&map, Rule::Fill, |n| fill::fill_ok(&map, n))?;
+    let linked = LinkedMap { floor: map };
+    let counts = linked.naming_counts();
+    tried(&map, Rule::Links, |n| linked.links_ok(counts[n], n))?;
+    tried(&map, Rule::Boxes, |n| boxes::boxes_ok(&linked, n))?;
+    apart(&map)
 }

@@ -1,64 +1,91 @@
 // Rule 14: how often each node is named, and that levels fall by one along every link.
-ghost use Rattle.std.specs.Prelude.{◌≡◌, true, ℕ, ◌*◌, ◌<◌};
-ghost use Rattle.numbers.specs.Below.{one};
-ghost use Rattle.floor.specs.View.{view_of, filled, link, Shaped};
-ghost use Rattle.rules.specs.Links.{named, named_ok, step_ok};
+ghost use Rattle.std.specs.Prelude.{◌≡◌, true, false, ◌*◌, ◌/◌, ◌<◌, MatchOption};
+ghost use Rattle.floor.specs.Seen.{seen};
+ghost use Rattle.floor.specs.View.{view_of, filled, leaf};
+ghost use Rattle.rules.specs.Links.{Linked, named, named_ok, step_ok, links_ok};
 ghost use Rattle.rules.specs.Leaning.{Counted};
 
-fn once(t: bool) -> u16
-    ensures { result ≡ one t }
-{
-    if t { 1 } else { 0 }
+use floor::FloorMap;
+
+// A map of which the form rule has been tried: along every link there is a node.
+#[derive(Clone, Copy)]
+pub struct LinkedMap<'a> {
+    pub floor: FloorMap<'a>,
+    ghost linked: { Linked (view_of floor.bytes.now) },
 }
 
-// How many slots name each node; a leaf is passed over whole. The number of a node is below 256, so that the remainder
-// cuts only where nothing is added.
-pub fn naming_counts(map: &[u8]) -> [u16; 256]
-    requires { Shaped (view_of map.now)
-        × ((j : ℕ) → j < 8 * (view_of map.now).count → link (view_of map.now) j ≡ true → (view_of map.now).ref j < (view_of map.now).count) }
-    ensures { Counted (view_of map.now) result }
-{
-    let slots = 8 * floor::count_of(map);
-    let mut counts = [0u16; 256];
-    let mut j = 0;
-    while j < slots {
-        let n = j / 8;
-        if floor::level_of(map, n) == 0 {
-            j = 8 * n + 8;
-        } else {
-            let t = (floor::ref_of(map, j) % 256) as usize;
-            counts[t] = counts[t] + once(floor::is_filled(map, j));
-            j += 1;
-        }
-    }
-    counts
-}
-
+// A node named as often as it should be, and the root at the top level.
 #[tactic(auto, unfolding(crate::specs::Links::named_ok))]
-pub fn named_ok(map: &[u8], times: u16, n: usize) -> bool
-    requires { Shaped (view_of map.now) × ((n < (view_of map.now).count) × (times ≡ named (view_of map.now) n)) }
-    ensures { result ≡ named_ok (view_of map.now) n }
+fn named_ok(map: &FloorMap, times: u16, n: usize) -> bool
+    requires { (n < (seen map.now).count) × (times ≡ named (seen map.now) n) }
+    ensures { result ≡ named_ok (seen map.now) n }
 {
-    let level = floor::level_of(map, n) as u32;
-    let height = floor::height_of(map) as u32;
-    if n == floor::root_of(map) {
+    let level = u32::from(map.level(n));
+    let height = u32::from(map.height());
+    if n == map.root() {
         return (times == 0) & (level + 1 == height);
     }
     times == 1
 }
 
-// A filled slot of a node above the leaves names a node one level lower.
-#[tactic(auto, unfolding(crate::specs::Links::step_ok))]
-pub fn step_ok(map: &[u8], j: usize) -> bool
-    requires { Shaped (view_of map.now)
-        × ((j < 8 * (view_of map.now).count) × (filled (view_of map.now) j ≡ true → (view_of map.now).ref j < (view_of map.now).count)) }
-    ensures { result ≡ step_ok (view_of map.now) j }
-{
-    if !floor::is_filled(map, j) {
-        return true;
+// Kept (5): that slot j lies above the leaves is asked three times; a type for such a node would be one more to believe, for
+// the two callers that test the level and then go over the slots.
+impl<'a> LinkedMap<'a> {
+    // The node that slot j, above the leaves, names where it is filled.
+    pub fn child(&self, j: usize) -> Option<usize>
+        requires { (j < 8 * (seen self.now.floor).count)
+            × (leaf (seen self.now.floor) (j / 8) ≡ false) }
+        ensures { MatchOption result
+            (filled (seen self.now.floor) j ≡ false)
+            (λ n. (filled (seen self.now.floor) j ≡ true)
+            × (n ≡ (seen self.now.floor).ref j) × (n < (seen self.now.floor).count)) }
+    {
+        if !self.floor.is_filled(j) {
+            return None;
+        }
+        Some(self.floor.reference(j) as usize)
     }
-    let child = floor::ref_of(map, j) as usize;
-    let below = floor::level_of(map, child) as u32;
-    let level = floor::level_of(map, j / 8) as u32;
-    below + 1 == level
+
+    // How many slots name each node; a leaf is passed over whole.
+    pub fn naming_counts(&self) -> [u16; 256]
+        ensures { Counted (seen self.now.floor) result }
+    {
+        let mut counts = [0u16; 256];
+        for n in 0..self.floor.count() {
+            if self.floor.level(n) != 0 {
+                for i in 0..8 {
+                    if let Some(child) = self.child(8 * n + i) {
+                        counts[child] += 1;
+                    }
+                }
+            }
+        }
+        counts
+    }
+
+    // A filled slot of a node above the leaves names a node one level lower.
+    #[tactic(auto, unfolding(crate::specs::Links::step_ok))]
+    fn step_ok(&self, j: usize) -> bool
+        requires { (j < 8 * (seen self.now.floor).count)
+            × (leaf (seen self.now.floor) (j / 8) ≡ false) }
+        ensures { result ≡ step_ok (seen self.now.floor) j }
+    {
+        let Some(child) = self.child(j) else {
+            return true;
+        };
+        let below = u32::from(self.floor.level(child));
+        let level = u32::from(self.floor.level(j / 8));
+        below + 1 == level
+    }
+
+    // The rule, of node n, which is named so many times.
+    #[tactic(auto, unfolding(crate::specs::Links::links_ok))]
+    pub fn links_ok(&self, times: u16, n: usize) -> bool
+        requires { (n < (seen self.now.floor).count)
+            × (times ≡ named (seen self.now.floor) n) }
+        ensures { result ≡ links_ok (seen self.now.floor) n }
+    {
+        named_ok(&self.floor, times, n)
+            && (self.floor.level(n) == 0 || (0..8).all(|i| self.step_ok(8 * n + i)))
+    }
 }

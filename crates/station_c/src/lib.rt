@@ -1,5 +1,6 @@
 // The station's library as C, C++ and Rust hosts link it: each export calls the function of `station` of its name, under the
 // same clauses. include/krylozhma.h declares them. A slice is a pointer and a length to C.
+// Kept (2): C needs the names exported, and a crate that exports to C is no library for `trial`.
 
 #![tactic(auto)]
 

@@ -1,7 +1,6 @@
 -- One question as text, one answer as text: what the program `nearby` says. Document 01, '`nearby`'.
-use Rattle.std.specs.Prelude.{List, [], ℕ, replicate}
-use Rattle.reader.specs.declared.Asked.{Asked}
-use Rattle.reader.specs.declared.Asked.TheVariants.{Read, Bad}
+use Rattle.std.specs.Prelude.{List, [], ℕ, replicate, Option, Some, None}
+use Rattle.question.specs.declared.Question.{Question}
 use Rattle.reader.specs.QuestionText.{question_in}
 use Rattle.printer.specs.Printed.{printed}
 use Rattle.record.specs.Record.{records_in}
@@ -19,9 +18,9 @@ abbrev pub reply_text : Reply → List ℕ
 reply_text r = printed r.number (records_in r.found r.room)
 
 -- answer 6 before all others; else the reply
-abbrev pub text_for : List ℕ → Asked → List ℕ
-text_for map (Read q) = reply_text (reply_of map q empty_room)
-text_for map Bad = printed 6 []
+abbrev pub text_for : List ℕ → Option Question → List ℕ
+text_for map (Some q) = reply_text (reply_of map q empty_room)
+text_for map None = printed 6 []
 
 unfoldable pub answer_text : List ℕ → List ℕ → List ℕ
 answer_text map input = text_for map (question_in input)

@@ -13,7 +13,8 @@ use lib.ListN.{get_or}
 use lib.Dec.{eqb, leb}
 use borrow.Author.Tests.{eqb-true, eq-eqb, ne_eqb, le-leb, lt-leb}
 use Rattle.numbers.specs.Below.{one, count_below}
-use Rattle.numbers.proofs.Tests.{both, and_true}
+use Rattle.std.proofs.Math.Bool.{and-true}
+use Rattle.std.proofs.lemmas.Bool.{and_parts}
 use Rattle.numbers.proofs.Below.{ordered, count_some, count_most, count_agree}
 use Rattle.numbers.proofs.Counting.{count_add, count_sum, count_led}
 use Rattle.words.specs.Words.{le_at}
@@ -62,7 +63,7 @@ module _ (v : View) (narrow : Narrow v) where
       same : (i : ℕ) → i < 8 → stands v l (8 * n + i) ≡ filled v (8 * n + i)
       same i m =
           let q : (8 * n + i) / 8 ≡ n = omega arith in
-          rw (eq-eqb (v.level ((8 * n + i) / 8)) l (ap v.level q ∙ e)) (and_true (filled v (8 * n + i)))
+          rw (eq-eqb (v.level ((8 * n + i) / 8)) l (ap v.level q ∙ e)) (and-true (filled v (8 * n + i)))
 
   -- where each node of a level has c filled slots or more
   level_stands : (c l : ℕ) → ((n : ℕ) → n < v.count → v.level n ≡ l → c ≤ ones (v.occupied n)) → (m : ℕ) → m ≤ v.count → c * count_below (λ n. eqb (v.level n) l) m ≤ count_below (stands v l) (8 * m)
@@ -84,12 +85,12 @@ module _ (v : View) (tree : Treelike v) where
   level_names l = count_led v.ref (λ n. eqb (v.level n) l) (8 * v.count) v.count (stands v (suc l)) leads once
     where
       high : (j : ℕ) → stands v (suc l) j ≡ true → v.level (j / 8) ≡ suc l
-      high j e = eqb-true (v.level (j / 8)) (suc l) (both (filled v j) (eqb (v.level (j / 8)) (suc l)) e).1
+      high j e = eqb-true (v.level (j / 8)) (suc l) (and_parts (filled v j) (eqb (v.level (j / 8)) (suc l)) e).1
 
       linked : (j : ℕ) → stands v (suc l) j ≡ true → link v j ≡ true
       linked j e =
           let h = high j e in
-          link_above v j (ne_eqb (v.level (j / 8)) 0 (λ z. omega arith)) ∙ (both (filled v j) (eqb (v.level (j / 8)) (suc l)) e).0
+          link_above v j (ne_eqb (v.level (j / 8)) 0 (λ z. omega arith)) ∙ (and_parts (filled v j) (eqb (v.level (j / 8)) (suc l)) e).0
 
       leads : (j : ℕ) → j < 8 * v.count → stands v (suc l) j ≡ true → (v.ref j < v.count) × (eqb (v.level (v.ref j)) l ≡ true)
       leads j h e = (

@@ -7,8 +7,7 @@ use native.Mathlib.Omega.{arith}
 use Rattle.measure.specs.Axis.{span_in}
 use Rattle.floor.specs.View.{View, link}
 use Rattle.floor.specs.Layout.{axis_count}
-use Rattle.rules.specs.declared.boxes.Side.{Side}
-use Rattle.rules.specs.Boxes.{end_of}
+use Rattle.rules.specs.Boxes.{Side, end_of}
 use Rattle.rules.proofs.Hull.{hull_reached}
 use Rattle.rules.proofs.Linked.{link_filled}
 use Rattle.tree.specs.Treelike.{Treelike}

@@ -7,7 +7,7 @@ use mathlib.Core.Bool.{true, not}
 use mathlib.Core.List.Memᴰ
 use mathlib.Core.List.{[], ◌∷◌, Memᴰ}
 use borrow.Author.Tests.{eqb-true, ne_eqb}
-use Rattle.numbers.proofs.Tests.{both}
+use Rattle.std.proofs.lemmas.Bool.{and_parts}
 use Rattle.floor.specs.View.{View, filled, leaf, bay, link}
 use Rattle.order.specs.Order.{Once, Disjoint, Same}
 use Rattle.order.proofs.Place.{by_test}
@@ -84,12 +84,12 @@ module _ (v : View) (tree : Treelike v) where
   to_node : (n k : ℕ) → k < 8 * v.count → bay v k ≡ true → Under v n k → Memᴰ k (node_bays v (v.level n) n)
   unfolding slot_bays
   to_node n k h b (here q) =
-      let p = both (leaf v (k / 8)) (filled v k) b in
+      let p = and_parts (leaf v (k / 8)) (filled v k) b in
       let z : v.level n ≡ 0 = ap v.level (sym q) ∙ eqb-true (v.level (k / 8)) 0 p.0 in
       rw z (in_part 0 n k k q p.1 (Memᴰ.head refl))
   to_node n k h b (down j i l q u) =
       let s : v.level n ≡ suc (v.level (v.ref j)) = omega (arith, ap v.level q, link_falls v tree j i l) in
-      rw s (in_part (suc (v.level (v.ref j))) n j k q (both (not (leaf v (j / 8))) (filled v j) l).1 (to_node (v.ref j) k h b u))
+      rw s (in_part (suc (v.level (v.ref j))) n j k q (and_parts (not (leaf v (j / 8))) (filled v j) l).1 (to_node (v.ref j) k h b u))
 
   -- ---- each once
 

@@ -8,7 +8,7 @@ use native.Mathlib.Omega.{arith}
 use native.Mathlib.Decide.{ℕ_discrete}
 use lib.Dec.{eqb}
 use borrow.Author.Tests.{eqb-true, eq-eqb}
-use Rattle.numbers.proofs.Tests.{both}
+use Rattle.std.proofs.lemmas.Bool.{and_parts}
 use Rattle.numbers.proofs.Below.{ordered, count_some, count_two, count_found}
 use Rattle.numbers.proofs.Exactly.{by_eights}
 use Rattle.numbers.proofs.Order.{test_le}
@@ -16,11 +16,9 @@ use Rattle.measure.specs.Axis.{span_in}
 use Rattle.floor.specs.View.{View, filled, bay, link}
 use Rattle.floor.specs.Layout.{axis_count}
 use Rattle.rules.specs.declared.Rule.TheVariants.{Form, Links, Boxes, Bays}
-use Rattle.rules.specs.declared.boxes.Side.{Side}
-use Rattle.rules.specs.declared.boxes.Side.TheVariants.{Low, High}
 use Rattle.rules.specs.Form.{Entry}
 use Rattle.rules.specs.Links.{names, named}
-use Rattle.rules.specs.Boxes.{as_far, end_of, hull}
+use Rattle.rules.specs.Boxes.{Side, Low, High, as_far, end_of, hull}
 use Rattle.rules.specs.Verdicts.{KeptAll, Keeps}
 use Rattle.rules.proofs.Linked.{link_filled}
 use Rattle.rules.proofs.Hull.{far_through, hull_holds}
@@ -87,7 +85,7 @@ module _ (v : View) (tree : Treelike v) where
   unfolding named
   parent t h d =
       let f = count_found (names v t) (8 * v.count) (omega (arith, named_once t h d)) in
-      let p = both (link v f.at) (eqb (v.ref f.at) t) f.passes in
+      let p = and_parts (link v f.at) (eqb (v.ref f.at) t) f.passes in
       let r = eqb-true (v.ref f.at) t p.1 in
       record {
         slot = f.at;

@@ -1,8 +1,7 @@
 -- On one side of one axis, a slot's box is the smallest round the filled boxes of the node that it names.
 use Rattle.std.specs.Prelude.{◌≡◌, true, ℕ, ◌/◌}
 use Rattle.floor.specs.View.{View, filled}
-use Rattle.rules.specs.declared.boxes.Side.{Side}
-use Rattle.rules.specs.Boxes.{as_far, end_of}
+use Rattle.rules.specs.Boxes.{Side, as_far, end_of}
 
 pub record Smallest (v : View) (a : ℕ) (side : Side) (j : ℕ) : Type 0 where
   -- slot j reaches as far out as every filled slot of that node

@@ -74,16 +74,3 @@ bytes_joined (suc j) k low high h =
 pub bytes_split : (j k n : ℕ) → le_bytes (j + k) n ≡ le_bytes j (n % 256 ^ j) ++ le_bytes k (n / 256 ^ j)
 bytes_split j k n =
     ap (le_bytes (j + k)) (sym (mod-add-div n (256 ^ j))) ∙ bytes_joined j k (n % 256 ^ j) (n / 256 ^ j) (mod-lt n (one-le-pow j 256 (omega arith)))
-
--- a number stored as two
-pub halves_laid : (l : List ℕ) (at j k n : ℕ)
-    → sets (sets l at (le_bytes j (n % 256 ^ j))) (at + j) (le_bytes k (n / 256 ^ j)) ≡ sets l at (le_bytes (j + k) n)
-halves_laid l at j k n = simp (bytes_split, sets_append, length_bytes)
-
--- two bytes, as they are stored
-pub bytes_laid : (l : List ℕ) (at n : ℕ) → n < 65536 → set (set l at (n % 256)) (at + 1) (n / 256) ≡ sets l at (le_bytes 2 n)
-unfolding le_bytes
-bytes_laid l at n h =
-    let p : at + 1 ≡ suc at = omega arith in
-    let b : n / 256 % 256 ≡ n / 256 = omega arith in
-    rw (p, b)

@@ -6,5 +6,5 @@ use Rattle.record.proofs.put_record.Goals as goal
 
 pub returns : goal.returns
 returns c =
-    c.put_u64.ensures
-    ∙ rw (c.put_u32-2.ensures, c.put_u32.ensures) (record_laid c.args.room.now (record_size * c.args.i) c.args.r (search rules))
+    c.put-3.ensures
+    ∙ rw (c.put-2.ensures, c.put.ensures) (record_laid c.args.room.now (record_size * c.args.i) c.args.r _ c.from-zone.ensures (search rules))

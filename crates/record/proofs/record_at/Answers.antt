@@ -5,4 +5,4 @@ use Rattle.record.proofs.Reading.{record_in_lem}
 use Rattle.record.proofs.record_at.Goals as goal
 
 pub returns : goal.returns
-returns c = record_in_lem c.args.room.now (record_size * c.args.i) _ _ _ c.u32_at-bay.ensures refl c.u64_at.ensures
+returns c = record_in_lem c.args.room.now (record_size * c.args.i) _ _ _ c.read.ensures refl c.read-2.ensures

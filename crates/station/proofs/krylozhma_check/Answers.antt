@@ -7,4 +7,4 @@ use Rattle.station.proofs.krylozhma_check.Goals as goal
 pub pair-requires : goal.pair-requires
 pair-requires c =
     let verdict = c.check-verdict in
-    (omega (arith, c.number.ensures, rule_small verdict.result), omega (arith, c.node.ensures, ap node_of verdict.ensures, node_small c.args.map.now))
+    (omega (arith, c.from.ensures, c.number_of.ensures, rule_small verdict.result), omega (arith, c.node_of.ensures, ap node_of verdict.ensures, node_small c.args.map.now))

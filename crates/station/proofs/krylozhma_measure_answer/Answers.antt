@@ -9,5 +9,5 @@ pub returns : goal.returns
 returns c =
     let fits : AllFit c.args.x c.args.y c.args.xlow c.args.xhigh c.args.ylow c.args.yhigh = search rules in
     let is = c.mindist.ensures ∙ same_measure min_dist fits c.point.ensures c.bounds.ensures in
-    let one = c.number.ensures ∙ ap (λ (r : Reading). r.number) is in
+    let one = c.answer_of.ensures ∙ ap (λ (r : Reading). r.number) is in
     (one, one ∙ same_number min_dist min_max_dist _)

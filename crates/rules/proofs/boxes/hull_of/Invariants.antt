@@ -5,4 +5,4 @@ use Rattle.rules.specs.Boxes.{hull_of}
 use Rattle.rules.proofs.boxes.hull_of.Given as goal
 
 abbrev pub invariant-loop-i : goal.invariant-loop-i
-invariant-loop-i l = l.hull ≡ hull_of (view_of l.map) l.n l.i
+invariant-loop-i l = l.hull ≡ hull_of (view_of l.map.bytes.now) l.n l.i

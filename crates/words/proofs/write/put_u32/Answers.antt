@@ -1,7 +1,0 @@
--- A number stored as two, the lower half first.
-use Rattle.std.proofs.Common.{◌∙◌}
-use Rattle.words.proofs.Stores.{halves_laid}
-use Rattle.words.proofs.write.put_u32.Goals as goal
-
-pub returns : goal.returns
-returns c = c.put_u16-2.ensures ∙ rw c.put_u16.ensures (halves_laid c.args.bytes.now c.args.at 2 2 c.args.n)
