@@ -32,6 +32,7 @@ impl From<Refusal> for u32 {
 }
 
 // Document 01's number of an answer.
+// Kept (2): as `answer_of` in `measure`.
 pub fn number_of(answer: Result<usize, Refusal>) -> u32
     ensures { result ≡ answer_number answer }
 {

@@ -13,6 +13,8 @@ use question::Question;
 use record::{Record, put_record};
 
 // What is told of the bay of a key: the slot is read once.
+// Kept (5): the list holds bare numbers (`keys_of`), so a key with its map would be made anew at each reading, here and in
+// `nearest`.
 fn record_of(map: &FloorMap, key: Key) -> Record
     requires { slot_in key.0 < 8 * (seen map.now).count }
     ensures { result ≡ record_of (seen map.now) key.0 }
@@ -25,7 +27,6 @@ fn record_of(map: &FloorMap, key: Key) -> Record
     }
 }
 
-// Kept (5): a key's slot is asked for where it is read: a `Key` knows no map.
 fn write_page(map: &FloorMap, best: &Best, k: usize, room: &mut [u8])
     requires carried { Carried (seen map.now) k best.now }
     requires fits { record_size * k ≤ length room.old }

@@ -24,7 +24,7 @@ pub struct Sorted<'a> {
 pub fn list(map: &FloorMap, keys: &mut [Key; 2048]) -> usize
     ensures { result ≤ 2048 }
 {
-    // Kept (6): no heap, so that the keys lie in an array; the caller goes on with the slice of those that were put in.
+    // Kept (6): no heap, so the keys lie in an array; the caller goes on with the slice of those that were put in.
     let mut n = 0;
     for j in 0..8 * map.count() {
         if is_bay(map, j) {

@@ -9,7 +9,7 @@ use measure::{Bounds, Span};
 const ROOM: usize = 600;
 
 // A map of so many nodes.
-// Kept (6): the room is the longest of these maps; a `Vec` could run out of memory, which no figure speaks of.
+// Kept (6): no heap, so the room holds the longest of these maps, and `nodes` says how much of it is the map.
 #[derive(Drop)]
 pub struct Map {
     room: [u8; ROOM],

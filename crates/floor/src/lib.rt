@@ -68,7 +68,9 @@ fn header_at(map: &[u8]) -> Header
 
 // The header's fields, whatever they say, if there are bytes enough.
 pub fn read_header(map: &[u8]) -> Option<Header>
-    ensures { MatchOption result (length map.now < header_size) (λ h. (header_size ≤ length map.now) × HeaderRead (view_of map.now) h) }
+    ensures { MatchOption result
+        (length map.now < header_size)
+        (λ h. (header_size ≤ length map.now) × HeaderRead (view_of map.now) h) }
 {
     if map.len() < HEADER_SIZE {
         return None;

@@ -56,7 +56,7 @@ fn put_head(map: &mut [u8], n: usize, level: u8, occupied: u8)
 }
 
 // All of node n.
-// Kept (5): docs/STATEMENTS.md names `put_node` and `put_header`, which take a node's and the header's fields one by one.
+// Kept (5): a `Node` and a `Header` have `clear`, which a writer does not choose, so this and `put_header` take the fields.
 pub fn put_node(map: &mut [u8], n: usize, level: u8, occupied: u8, slots: [Slot; 8])
     requires { HasNode map.old n }
     ensures { map.new ≡ put_node map.old n (whole level occupied slots) }

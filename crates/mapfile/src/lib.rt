@@ -15,6 +15,7 @@ pub const MAP_ROOM: usize = 50185;
 
 // The bytes of floor.map, none where it is missing or cannot be read: how many stand at the buffer's start.
 // Kept (1): document 01 has a missing file count as 0 bytes.
+// Kept (6): as `read_full`.
 pub fn read_map<R: Files>(files: &R, map: &mut [u8]) -> usize
     ensures { IsPrefixLen result map.new }
 {
@@ -24,9 +25,9 @@ pub fn read_map<R: Files>(files: &R, map: &mut [u8]) -> usize
     }
 }
 
-// Kept (6): its second clause speaks of the buffer after the call, which a slice handed back would still lend.
 // Reads until the buffer is full, the input ends or a read fails, and returns how many bytes stand at the buffer's start: the
 // input's next ones, as far as these are known.
+// Kept (6): the second clause speaks of the buffer after the call, which a slice handed back would still lend.
 pub fn read_full<R: Read>(input: &mut R, buffer: &mut [u8]) -> usize
     ensures within { IsPrefixLen result buffer.new }
     ensures bytes { Consumes (R.remaining input.old) (R.remaining input.new) (take result buffer.new) }

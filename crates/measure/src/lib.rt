@@ -105,8 +105,7 @@ impl From<OutOfRange> for u32 {
 }
 
 // Document 01's answer number.
-// Kept (2): `rules` and `ask` have their own, each by the definition that docs/STATEMENTS.md names; one function for all would
-// leave that to every caller.
+// Kept (2): docs/STATEMENTS.md names one for each of `measure`, `rules` and `ask`, each over its own definition.
 pub fn answer_of(measured: Result<SquaredMm, OutOfRange>) -> u32
     ensures { result ≡ (reading_of measured).number }
 {

@@ -40,7 +40,8 @@ impl<'a> Seek<'a> {
         requires slots { Slots (seen self.now.map) best.now.keys }
         requires low { 1 ≤ self.now.q.k }
         requires high { self.now.q.k ≤ 100 }
-        ensures { result ≡ taken_of (seen self.now.map) (away self.now) self.now.q j best.now.len (get_or best.now.keys (self.now.q.k - 1) 0) }
+        ensures { result ≡ taken_of (seen self.now.map) (away self.now) self.now.q j best.now.len
+            (get_or best.now.keys (self.now.q.k - 1) 0) }
     {
         let k = self.q.k;
         self.map.is_filled(j)
@@ -52,7 +53,8 @@ impl<'a> Seek<'a> {
     pub fn leaf(&self, node: usize, best: &mut Best)
         requires inside { node < (seen self.now.map).count }
         requires carried { Carried (seen self.now.map) self.now.q.k best.old }
-        ensures { Searched (seen self.now.map) (away self.now) self.now.q (node_bays (seen self.now.map) 0 node) best.old best.new }
+        ensures { Searched (seen self.now.map) (away self.now) self.now.q
+            (node_bays (seen self.now.map) 0 node) best.old best.new }
     {
         // A copy, which the list's changes leave alone: what it holds is read once.
         let seek = *self;

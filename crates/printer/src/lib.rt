@@ -18,8 +18,8 @@ use output::Output;
 pub const OUTPUT_ROOM: usize = 20480;
 
 // Writes the reply from the start of `out`, and answers its length. What comes after it in `out` stays as it was.
-// Kept (6): a buffer and its length, since nothing is allocated and docs/STATEMENTS.md names this clause; inside, both are
-// one `Output`, and the room with its count is the slice of those records.
+// Kept (6): a buffer and its length, since nothing is allocated and docs/STATEMENTS.md names this clause, which speaks of the
+// room and its count, too; inside, the output and its length are one `Output`.
 pub fn print_reply(out: &mut [u8; OUTPUT_ROOM], number: u32, found: usize, room: &[u8]) -> usize
     requires { (found ≤ 100) × (record_size * found ≤ length room.now) }
     ensures { Wrote out.old out.new (printed number (records_in found room.now)) 0 result }

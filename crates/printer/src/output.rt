@@ -8,9 +8,9 @@ ghost use Rattle.printer.specs.Output.{HasRoom, Adds};
 
 use itoa::Buffer;
 
+// Its first `end` bytes are written; what stands behind them is whatever was there.
 // Kept (4): no clause of `write!` says when it is `Ok`, not even into a buffer with room, and `print_reply` cannot fail.
 // Kept (5): each method asks for the room that it needs, which is another for each.
-// Its first `end` bytes are written; what stands behind them is whatever was there.
 #[derive(Drop)]
 pub struct Output<'a> {
     room: &'a mut [u8],

@@ -7,7 +7,8 @@ ghost use Rattle.rules.specs.Header.{header_ok};
 use crate::Fault;
 use floor::FloorMap;
 
-// Kept (4): the edit `no_node_let_through` is refused by this text, so that no range's `contains` takes its place.
+// Kept (4): with `contains`, the edit `no_node_let_through`, which changes no outcome, is proved; here the answers hold
+// this text.
 fn header_ok(map: &[u8]) -> bool
     ensures { result ≡ header_ok (view_of map.now) }
 {

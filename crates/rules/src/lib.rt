@@ -1,6 +1,6 @@
 // The map check: rules 11 to 16 of document 01, each tried over the whole map before the next. One file for each rule but
-// rule 16, which is `bays`', with its test of a node; here are the one loop over nodes, and the verdict. `check` is for anyone; the rest is for
-// `check`, which knows that the rules before have been kept.
+// rule 16, which is `bays`', with its test of a node; here are the one loop over nodes, and the verdict. `check` is for
+// anyone; the rest is for `check`, which knows that the rules before have been kept.
 
 #![tactic(auto)]
 
@@ -66,6 +66,7 @@ impl Fault {
 }
 
 // Document 01's number of the check's answer.
+// Kept (2): as `answer_of` in `measure`.
 pub fn number_of(verdict: Result<(), Fault>) -> u32
     ensures { result ≡ number_of verdict }
 {

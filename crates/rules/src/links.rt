@@ -28,8 +28,8 @@ fn named_ok(map: &FloorMap, times: u16, n: usize) -> bool
     times == 1
 }
 
-// Kept (5): that slot j lies above the leaves is asked three times; a type for such a node would be one more to believe, for
-// the two callers that test the level and then go over the slots.
+// Kept (5): that slot j lies above the leaves is asked three times; a type for such a node would be made anew by each of the
+// three that test the level and then go over the slots, and say no more than the test does.
 impl<'a> LinkedMap<'a> {
     // The node that slot j, above the leaves, names where it is filled.
     pub fn child(&self, j: usize) -> Option<usize>

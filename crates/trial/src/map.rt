@@ -6,7 +6,7 @@ use crate::command::Load;
 use crate::stop::Stop;
 use std::io::Read;
 
-// Kept (6): a batch writes to any place of a map and sets its length apart, so that all the room is there from the start.
+// Kept (6): no heap; a load sets the length apart from the bytes, so a slice cannot stand for both; the ghost field ties them.
 #[derive(Drop)]
 pub struct Map {
     bytes: [u8; 65536],
