@@ -1,7 +1,8 @@
 // Rule 16, fast and exact: an index of the bays' slots is made, and it is checked that every bay is found in it from its
 // number alone, which shows that no number stands twice. Nothing rests on which slots it has: first a table by hashing,
 // and where numbers crowd, a sorted list. Where both fail, the caller falls back to `is_lone`, the definition itself.
-// The map check calls this; it knows maps through `floor` alone.
+// The map check calls this; it knows maps through `floor` alone. Its functions have a `requires`: slots and
+// nodes are the map's, and an entry is that of a bay.
 
 #![tactic(auto)]
 

@@ -1,6 +1,7 @@
 // The bytes of a floor map as a view: the header's fields, a node's by its number, a slot's by its flat number
 // j = 8 · node + i. Nothing outside this crate knows an offset. The map check and the search read maps through it.
 // A `FloorMap` is bytes of which the header rule has shown that every field that they count is there.
+// Its functions have a `requires`: a node or a slot is one that a map has, and the bytes that are read or written are there.
 
 #![tactic(auto)]
 

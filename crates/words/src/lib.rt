@@ -34,6 +34,7 @@ pub trait Word: Copy {
     ghost again: { (n : ℕ) → n < 256 ^ size → number (of n) ≡ n };
 }
 
+// Written out for each width: a macro writes no clause, and so no impl that has ghost members.
 impl Word for u16 {
     ghost size = { 2 };
 
