@@ -6,11 +6,12 @@ use Prim.Native.Nat.{ℕ, zero, suc, ◌+◌, ◌*◌, ◌-◌, ◌%◌, ◌<◌
 use native.Mathlib.Omega.{arith}
 use lib.Dec.{eqb, ltb}
 use lib.ListN.{length, get_or}
-use borrow.Author.Tests.{le-leb, eq-eqb, ne_eqb}
+use borrow.Author.Tests.{le-leb, eq-eqb, ne_eqb, lt-ltb, le-ltb}
 use Rattle.std.specs.List.{All, AllWithin}
+use Rattle.std.proofs.lemmas.List.{get_or_default}
 use Rattle.floor.specs.View.{View}
 use Rattle.bays.specs.declared.sorted.Key.{Key}
-use Rattle.bays.specs.Certificate.{entry_ref, walk_of, entry_from}
+use Rattle.bays.specs.Certificate.{InOrder, entry_ref, walk_of, entry_from}
 
 -- the entry of a slot refers to what the slot refers to
 pub own_entry : (v : View) (j : ℕ) → j < 8 * v.count → entry_ref v (j + 1) ≡ v.ref j
@@ -47,6 +48,17 @@ from_meets b [] at d low h not_low = absurd (omega arith)
 from_meets b (k ∷ ks) zero d low h not_low = rw not_low refl
 from_meets b (k ∷ ks) (suc at) d low h not_low =
     rw (low 0 d (omega arith) (omega arith)) (from_meets b ks at d (λ i e l m. low (suc i) e (omega arith) (omega arith)) (omega arith) not_low)
+
+-- the key at a place that has the number, where the one before it has a lower one
+pub first_meets : (b : ℕ) (keys : List Key) (at : ℕ) (d : Key) → InOrder keys → at < length keys → (get_or keys at d).number ≡ b → (0 < at → (get_or keys (at - 1) d).number < b) → entry_from keys b ≡ (get_or keys at d).entry
+first_meets b keys at d order h here before =
+    from_meets b keys at d (λ k e low high. lower k e high) h (le-ltb (get_or keys at d).number b (omega (arith, here)))
+  where
+    last : (e : Key) → 0 < at → (get_or keys (at - 1) e).number < b
+    last e pos = rw (get_or_default keys (at - 1) e d (omega arith)) (before pos)
+
+    lower : (k : ℕ) (e : Key) → k < at → ltb (get_or keys k e).number b ≡ true
+    lower k e high = lt-ltb (get_or keys k e).number b (omega (arith, last e (omega arith), order k (at - 1) e (omega arith) (omega arith)))
 
 -- where all are lower
 pub from_ends : (b : ℕ) (keys : List Key) → All (λ k. ltb k.number b ≡ true) keys → entry_from keys b ≡ 0

@@ -55,7 +55,7 @@ pub struct Node {
 }
 
 // The header's fields, where its bytes are there.
-fn header_at(map: &[u8]) -> Header
+pub fn header_at(map: &[u8]) -> Header
     requires { header_size ≤ length map.now }
     ensures { HeaderRead (view_of map.now) result }
 {

@@ -36,6 +36,7 @@ impl<'a> Output<'a> {
         self.end = end;
     }
 
+    #[tactic(auto, using(crate::proofs::Digits::digits_printed))]
     pub fn decimal(&mut self, n: u64)
         requires { HasRoom (length (decimal n)) self.old }
         ensures { Adds (length (decimal n)) self.old self.new (decimal n) }

@@ -26,7 +26,7 @@ whole_same (negsuc n) = ap negsuc (omega arith)
 pub question_same : (q : Question) → question_of (question_numbers q) ≡ q
 question_same q = rw (whole_same q.from.x, whole_same q.from.y)
 
-numbers_same : (x y k badge far bay : Number) → AllInLimits question_fields (x ∷ y ∷ k ∷ badge ∷ far ∷ bay ∷ [])
+pub numbers_same : (x y k badge far bay : Number) → AllInLimits question_fields (x ∷ y ∷ k ∷ badge ∷ far ∷ bay ∷ [])
     → question_numbers (question_of (x ∷ y ∷ k ∷ badge ∷ far ∷ bay ∷ [])) ≡ x ∷ y ∷ k ∷ badge ∷ far ∷ bay ∷ []
 numbers_same x y k badge far bay w =
     let after_y = w.1.1 in
@@ -53,18 +53,18 @@ module _ (text : List ℕ) where
     unfolding question_text
     own_read q f e = chain_complete question_fields text ss (question_numbers q) [] h f e
 
-    wrong_bad : all_numbers (numbers_in ss) ≡ false → ReadAs text None
+    pub wrong_bad : all_numbers (numbers_in ss) ≡ false → ReadAs text None
     wrong_bad w q f e =
         false≢true (sym w ∙ ap all_numbers (own_read q f e).0 ∙ limits_numbers question_fields (question_numbers q) f)
 
-    more_bad : is_nil (rest_of text ss) ≡ false → ReadAs text None
+    pub more_bad : is_nil (rest_of text ss) ≡ false → ReadAs text None
     more_bad w q f e = false≢true (sym w ∙ ap is_nil (own_read q f e).1)
 
   module _ (a b c d e f : Scan) (h : Chain question_fields text (a ∷ b ∷ c ∷ d ∷ e ∷ f ∷ [])) where
     abbrev read : List Scan
     read = a ∷ b ∷ c ∷ d ∷ e ∷ f ∷ []
 
-    all_read : all_numbers (numbers_in read) ≡ true → is_nil f.rest ≡ true → ReadAs text (Some (question_of (numbers_in read)))
+    pub all_read : all_numbers (numbers_in read) ≡ true → is_nil f.rest ≡ true → ReadAs text (Some (question_of (numbers_in read)))
     unfolding question_text
     all_read w o =
         let p = chain_sound question_fields text read h w in

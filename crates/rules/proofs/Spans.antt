@@ -10,7 +10,7 @@ use Rattle.std.specs.Int.{int_min, int_max}
 use Rattle.std.specs.Ordering.{int_eq}
 use Rattle.std.proofs.lemmas.Bool.Decides.{Decides-int_eq}
 use Rattle.numbers.proofs.Order.{le_total, le_both}
-use Rattle.rules.specs.Boxes.{outer, Low, High}
+use Rattle.rules.specs.Boxes.{Side, outer, Low, High}
 use Rattle.rules.specs.Spans.{same_z}
 use Rattle.rules.proofs.Exact.{same_z_is}
 
@@ -44,6 +44,20 @@ greatest_high a b = rw (less_not b a) (by (le_z a b) (le_z b a) refl refl)
     by true false d e = refl
     by false true d e = refl
     by false false d e = absurd (let h = le_total a b d in cc)
+
+-- round a span and itself it is that span: so the check follows a comparison that is made of `span_around`
+pub outer_same : (side : Side) (a : ℤ) → outer side a a ≡ a
+unfolding outer
+outer_same Low a = by (le_z a a)
+  where
+    by : (t : Bool) → cond t a a ≡ a
+    by true = refl
+    by false = refl
+outer_same High a = by (le_z a a)
+  where
+    by : (t : Bool) → cond t a a ≡ a
+    by true = refl
+    by false = refl
 
 pub same_eq : (a b : ℤ) → int_eq a b ≡ same_z a b
 same_eq a b =

@@ -46,7 +46,7 @@ module _ (v : View) (r : Rule) where
       by true l e = absurd (cc)
       by false l e = ltb-false (lowest_fault r v) v.count l
 
-  kept_by : v.count ≤ lowest_fault r v → KeptAll r v
+  pub kept_by : v.count ≤ lowest_fault r v → KeptAll r v
   kept_by h n l = (rule_exactly r v n).sound (first_none (rule_ok r v) v.count h n l)
 
   kept : {u : Unit {0}} → Ok u ≡ tried_of v r → KeptAll r v

@@ -50,7 +50,7 @@ fn hull_of(map: &FloorMap, n: usize) -> Bounds
 }
 
 // A filled slot of a node above the leaves carries that box.
-#[tactic(auto, using(crate::proofs::Spans::same_eq), unfolding(crate::specs::Boxes::tight_ok, crate::specs::Spans::same_span))]
+#[tactic(auto, using(crate::proofs::Spans::same_eq, crate::proofs::Spans::outer_same), unfolding(crate::specs::Boxes::tight_ok, crate::specs::Spans::same_span))]
 fn tight_ok(map: &LinkedMap, j: usize) -> bool
     requires { (j < 8 * (seen map.now.floor).count)
         × (leaf (seen map.now.floor) (j / 8) ≡ false) }

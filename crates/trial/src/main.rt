@@ -9,10 +9,12 @@ mod batch;
 mod command;
 mod kept;
 mod map;
+mod quiet;
 mod stop;
 
 use batch::{read_command, read_count};
 use kept::Kept;
+use quiet::Quiet;
 use std::io;
 use std::io::{Print, Read};
 use stop::Stop;
@@ -24,10 +26,28 @@ fn main(rt: HostRuntime) -> io::Result<()> {
     }
 }
 
-// So many commands, or fewer where one ends the run.
+// So many commands, or fewer where one ends the run. Where a write fails the rest is read all the same.
 fn run(batch: &mut impl Read, out: &impl Print) -> Result<(), Stop> {
     let mut kept = Kept::new();
-    for _ in 0..read_count(batch)? {
+    let count = read_count(batch)?;
+    for i in 0..count {
+        let ran = kept.obey(read_command(batch)?, batch, out);
+        if let Err(Stop::Unwritten(_)) = ran {
+            // What ends the rest is no news: the write that failed is what `main` answers with.
+            let _ = obey_all(count - 1 - i, &mut kept, batch, &Quiet);
+        }
+        ran?;
+    }
+    Ok(())
+}
+
+fn obey_all(
+    count: u32,
+    kept: &mut Kept,
+    batch: &mut impl Read,
+    out: &impl Print,
+) -> Result<(), Stop> {
+    for _ in 0..count {
         kept.obey(read_command(batch)?, batch, out)?;
     }
     Ok(())

@@ -3,7 +3,7 @@ use Rattle.std.proofs.Common.{sym, ap, ◌∙◌, ltb, rules, arith}
 use Rattle.std.proofs.lemmas.List.Sorted.{IsPartitionPoint-from_clause, IsPartitionedBy-ltb}
 use Rattle.bays.specs.declared.sorted.Key.{Key}
 use Rattle.bays.proofs.Search.{from_meets, from_ends}
-use Rattle.bays.proofs.sorted.SortedIndex.find.Goals as goal
+use Rattle.bays.proofs.sorted.Sorted.halved.Goals as goal
 
 pub returns-in-Some : goal.returns-in-Some
 returns-in-Some c =
