@@ -96,6 +96,15 @@ fn tried<F: Fn(usize) -> bool>(map: &FloorMap, rule: Rule, holds: F) -> Result<(
     Ok(())
 }
 
+// Rule 14. Not inlined: the counts are then cleared where they are needed, and not for a map that is refused before.
+#[inline(never)]
+fn try_links(map: &LinkedMap) -> Result<(), Fault>
+    ensures { result ≡ tried_of (seen map.now.floor) Rule.Links }
+{
+    let counts = map.naming_counts();
+    tried(&map.floor, Rule::Links, |n| map.links_ok(counts[n], n))
+}
+
 // Rule 16, of node n, by the definition.
 fn bays_ok(map: &FloorMap, n: usize) -> bool
     requires { n < (seen map.now).count }
@@ -124,8 +133,7 @@ pub fn check(bytes: &[u8]) -> Result<(), Fault>
     tried(&map, Rule::Form, |n| form::form_ok(&map, n))?;
     tried(&map, Rule::Fill, |n| fill::fill_ok(&map, n))?;
     let linked = LinkedMap { floor: map };
-    let counts = linked.naming_counts();
-    tried(&map, Rule::Links, |n| linked.links_ok(counts[n], n))?;
+    try_links(&linked)?;
     tried(&map, Rule::Boxes, |n| boxes::boxes_ok(&linked, n))?;
     apart(&map)
 }
